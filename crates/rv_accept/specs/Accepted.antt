@@ -1,4 +1,4 @@
--- The job that an accepted job becomes: it expects the actual results of its run.
+-- A job after its run was accepted: it expects the results of the run.
 use Rattle.std.specs.Prelude.{Some, Option, ℕ, List}
 use Rattle.rv_rows.specs.declared_job.ExpectedConsole.{ExpectedConsole}
 use Rattle.rv_rows.specs.declared_job.ExpectedConsole.TheVariants.{Text}
@@ -8,22 +8,22 @@ use Rattle.rv_rows.specs.declared_job.Job.{Job}
 use Rattle.rv_rows.specs.declared_row.RowEnd.{RowEnd}
 use Rattle.rv_rows.specs.declared_row.RowEnd.TheVariants as ending
 
--- the new value of `expect_exit`: the actual exit code, if an exit code is expected and the run exited; otherwise the old value
+-- the new value of `expect_exit`: the actual exit code if an exit code is expected and the run exited, and otherwise the old value
 abbrev pub actual_exit : Option ℕ → RowEnd → Option ℕ
 actual_exit (Some code) (ending.Exit actual) = Some actual
 actual_exit expected _ = expected
 
--- the new value of `expect_end`: the actual kind of fault, if a fault is expected and the run faulted; otherwise the old value
+-- the new value of `expect_end`: the actual kind of fault if a fault is expected and the run faulted, and otherwise the old value
 abbrev pub actual_end : Option ExpectedEnd → RowEnd → Option ExpectedEnd
 actual_end (Some (expected.Fault kind)) (ending.Fault actual pc value) = Some (expected.Fault actual)
 actual_end expected _ = expected
 
--- the new value of `expect_console`: the actual console, if the list contains the expected text; otherwise the old value
+-- the new value of the expected console: the actual console output if the expected text is in the list, and otherwise the old value
 abbrev pub actual_console : Option ExpectedConsole → List ℕ → Option ExpectedConsole
 actual_console (Some (Text bytes)) console = Some (Text console)
 actual_console expected console = expected
 
--- the job after it was accepted: it expects the actual end and console of its run
+-- the job after its run was accepted: it expects this end and this console output where it specified such expectations in the list
 abbrev pub accepted_job : Job → RowEnd → List ℕ → Job
 accepted_job job end console = record job {
   expect_exit = actual_exit job.expect_exit end;

@@ -1,5 +1,4 @@
--- A text as a TOML basic string on one line: in quotes, with control characters and the two characters that have a meaning there escaped
--- (TOML 1.0.0, String).
+-- A text as a TOML basic string on one line: in quotes, with control characters, quotes and backslashes escaped (TOML 1.0.0, String).
 use Rattle.std.specs.Prelude.{ℕ, List, [], ◌∷◌, ◌++◌, ◌==◌, ◌||◌, Bool, codes, if◌then◌else◌, Option, Some, None}
 use Rattle.std.specs.Int.{is_in_range}
 use Rattle.std.specs.List.{flat_map}
@@ -17,13 +16,14 @@ short_escape byte =
 abbrev pub is_control : ℕ → Bool
 is_control byte = is_in_range 0 31 byte || byte == 127
 
--- a byte in a TOML string: its escape, if there is one; else `\u00` and two digits for a control character, or the byte itself
+-- a byte in a TOML string: its two-character escape, if it has one; otherwise a control character as `\u00` and two hexadecimal digits, and
+-- any other byte unchanged
 abbrev pub byte_text_given_escape : Option (List ℕ) → ℕ → List ℕ
 byte_text_given_escape (Some escape) byte = escape
 byte_text_given_escape None byte =
     if is_control byte then codes "\\u00" ++ encode_lower (byte ∷ []) else byte ∷ []
 
--- a byte as it is written in a TOML string: escaped if necessary
+-- a byte as it is written in a TOML string, escaped if necessary
 abbrev pub byte_text : ℕ → List ℕ
 byte_text byte = byte_text_given_escape (short_escape byte) byte
 

@@ -1,4 +1,4 @@
--- Which ends of a run are accepted.
+-- Ends of runs that are accepted.
 use Rattle.std.specs.Prelude.{◌&&◌, ◌||◌, Bool, true, false, Some, None, Option, ℕ, is_some}
 use Rattle.rv_rows.specs.declared_job.ExpectedEnd.{ExpectedEnd}
 use Rattle.rv_rows.specs.declared_job.ExpectedEnd.TheVariants as expected
@@ -9,20 +9,19 @@ use Rattle.rv_rows.specs.Verdict.{did_run, exits_with, has_expected_end, has_exp
 use Rattle.rv_accept.specs.declared.ends.Acceptance.{Acceptance}
 use Rattle.rv_accept.specs.declared.ends.Acceptance.TheVariants as acceptance
 
--- whether the job ran and ended as expected: with exit 0 if no end is expected
+-- whether the job ran and ended as it expects; if it specifies no end, with exit 0
 abbrev pub ended_as_expected : Option ℕ → Option ExpectedEnd → RowEnd → Bool
 ended_as_expected exit expected_end end = did_run end
     && (has_expected_exit exit end
     && (has_expected_end expected_end end && (is_some exit || (is_some expected_end || exits_with 0 end))))
 
--- whether the job exited and expects only an exit code, or faulted and expects only a fault, whatever the code or the kind
+-- whether the job exited and specifies only an exit code, or faulted and specifies only a fault; the code and the kind do not matter
 abbrev pub ended_with_expected_kind : Option ℕ → Option ExpectedEnd → RowEnd → Bool
 ended_with_expected_kind (Some code) None (ending.Exit actual) = true
 ended_with_expected_kind None (Some (expected.Fault kind)) (ending.Fault actual pc value) = true
 ended_with_expected_kind _ _ _ = false
 
--- whether the end of a run is accepted, given the expected exit code and the expected end: it is as expected, or, if `acceptance` allows
--- that, an exit or a fault where one is expected
+-- whether the end of a run is accepted, given the exit code and the end that the job specifies
 abbrev pub is_accepted : Acceptance → Option ℕ → Option ExpectedEnd → RowEnd → Bool
 is_accepted acceptance.Expected exit expected_end end = ended_as_expected exit expected_end end
 is_accepted acceptance.ExpectedKind exit expected_end end = ended_as_expected exit expected_end end || ended_with_expected_kind exit expected_end end

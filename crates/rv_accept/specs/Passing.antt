@@ -1,4 +1,4 @@
--- A run of an accepted job, with its files.
+-- A later run of a job whose results were accepted, with its golden files.
 use Rattle.std.specs.Prelude.{◌≡◌, Bool, true, false, IfSome, IsTrue, List}
 use Rattle.rv_rows.specs.Jobs.{console_path}
 use Rattle.rv_rows.specs.Plans.{result_or_unreadable}
@@ -25,13 +25,13 @@ outcome_of_row row = record {
   signature = row.signature;
 }
 
--- a later run of the job reads the same image, if the job ran, and finds the results of its row in its golden files
+-- a later run of the job reads the same image, if the job ran, and finds the results of its row in the golden files
 pub record AreGoldenFilesUpToDate (earlier later : List PathResult) (job : Job) (row : Row) : Type 0 where
   pub image : IsTrue (did_run row.ending) → result_or_unreadable later job.image ≡ result_or_unreadable earlier job.image
   pub signature : IfSome job.expect_signature (λ path. result_or_unreadable later path ≡ kept.Content (lines_of_signature row.signature))
   pub console : IfSome (console_path job.expect_console) (λ path. result_or_unreadable later path ≡ kept.Content row.console)
 
--- the job ran, and ended as it expects
+-- the job ran and ended as it expects
 pub record HasExpectedEnd (job : Job) (row : Row) : Type 0 where
   pub ran : IsTrue (did_run row.ending)
   pub exit : IsTrue (has_expected_exit job.expect_exit row.ending)

@@ -1,4 +1,4 @@
--- The golden files that accepted jobs name.
+-- The golden files that accepted jobs name, and what happens to them.
 use Rattle.std.specs.Prelude.{◌&&◌, Bool, false, not, ℕ, List, [], ◌∷◌, ◌++◌, Option, Some, if◌then◌else◌, slice_get}
 use Rattle.std.specs.List.{list_any}
 use Rattle.std.specs.Str.{bytes_eq}
@@ -8,16 +8,16 @@ use Rattle.rv_accept.specs.declared.golden_texts.GoldenText.{GoldenText}
 use Rattle.rv_accept.specs.declared.runs.JobRun.{JobRun}
 use Rattle.rv_accept.specs.declared.targets.Target.{Target}
 
--- whether there is a run and it is accepted: its job is chosen and was not skipped
+-- whether the job was run, and its run is accepted
 abbrev pub is_accepted_entry : Option (Option JobRun) → Bool
 is_accepted_entry (Some (Some run)) = is_accepted_run run
 is_accepted_entry _ = false
 
--- whether the list already has the golden file at the path
+-- whether the golden file at this path is among the targets
 abbrev pub has_target : List ℕ → List Target → Bool
 has_target path targets = list_any (λ target. bytes_eq path target.path) targets
 
--- the golden file of a golden text, with the outcome for this file
+-- the file of a golden text, with what happens to it
 abbrev pub target_of : List GoldenText → GoldenText → Target
 target_of golden_texts golden_text = record {
   path = golden_text.path;
@@ -26,7 +26,7 @@ target_of golden_texts golden_text = record {
   outcome = outcome_of_golden_file golden_text.path golden_texts;
 }
 
--- the list with the golden file of this golden text added, if the text's job is accepted and the list does not have the file yet
+-- the targets with the file of this golden text added, if the text's job is accepted and the file is not among them
 abbrev pub with_target : List (Option JobRun) → List GoldenText → List Target → GoldenText → List Target
 with_target runs golden_texts targets golden_text =
     if is_accepted_entry (slice_get runs golden_text.job) && not (has_target golden_text.path targets)

@@ -1,4 +1,4 @@
--- The values of a list that an accepted run changes.
+-- The values in a list that accepting a run replaces.
 use Rattle.std.specs.Prelude.{Bool, true, not, ℕ, List, [], Option, Some, codes}
 use Rattle.std.specs.Fmt.{decimal}
 use Rattle.std.specs.Str.{bytes_eq}
@@ -14,18 +14,18 @@ use Rattle.rv_accept.specs.BasicString.{basic_string}
 use Rattle.rv_accept.specs.declared.values.ValueKey.{ValueKey}
 use Rattle.rv_accept.specs.declared.values.ValueKey.TheVariants as key
 
--- the name of a key, as the list writes it
+-- the name of the key in a list
 abbrev pub value_key_name : ValueKey → List ℕ
 value_key_name key.Exit = codes "expect_exit"
 value_key_name key.End = codes "expect_end"
 value_key_name key.Console = codes "expect_console"
 
--- whether the console equals the text that the list contains; true if the list contains no text
+-- whether the console output equals the expected text in the list; true if there is none
 abbrev pub has_expected_text : Option ExpectedConsole → List ℕ → Bool
 has_expected_text (Some (Text bytes)) console = bytes_eq bytes console
 has_expected_text _ console = true
 
--- whether the value of this key changes when the job is accepted with this row
+-- whether accepting this row changes the value of this key
 abbrev pub is_value_changed : ValueKey → Job → Row → Bool
 is_value_changed key.Exit job row = not (has_expected_exit job.expect_exit row.ending)
 is_value_changed key.End job row = not (has_expected_end job.expect_end row.ending)

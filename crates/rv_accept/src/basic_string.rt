@@ -5,7 +5,7 @@ ghost use Rattle.rv_accept.specs.BasicString.{basic_string, byte_text, byte_text
 
 use std::alloc::{AllocError, Global};
 
-/// Appends a text as a TOML basic string on one line.
+/// Appends a text as a TOML basic string on one line (TOML 1.0.0, String).
 #[tactic(auto, unfolding(crate::specs::BasicString::basic_string))]
 pub fn push_basic_string(alloc: Global, out: &mut Vec<u8>, text: &[u8]) -> Result<(), AllocError>
     ensures { OnOk result (out.new.items ≡ out.old.items ++ basic_string text.now) }
@@ -18,7 +18,7 @@ pub fn push_basic_string(alloc: Global, out: &mut Vec<u8>, text: &[u8]) -> Resul
     Ok(())
 }
 
-// Appends a byte as it is written in a TOML string: escaped if necessary.
+// Appends a byte as it is written in a TOML string, escaped if necessary.
 fn push_byte(alloc: Global, out: &mut Vec<u8>, byte: u8) -> Result<(), AllocError>
     ensures { OnOk result (out.new.items ≡ out.old.items ++ byte_text byte) }
 {
@@ -44,7 +44,7 @@ fn short_escape(byte: u8) -> Option<&'static str>
     }
 }
 
-// Appends a byte that has no two-character escape: a control character as `\u00` and two digits, and any other byte unchanged.
+// Appends a byte without a two-character escape: a control character as `\u00` and two hexadecimal digits, and any other byte unchanged.
 fn push_without_short_escape(alloc: Global, out: &mut Vec<u8>, byte: u8) -> Result<(), AllocError>
     ensures { OnOk result (out.new.items ≡ out.old.items ++ byte_text_given_escape None byte) }
 {

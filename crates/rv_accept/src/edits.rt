@@ -6,7 +6,7 @@ ghost use Rattle.rv_accept.specs.Edits.{edited_rest, text_range};
 use rv_rows::Bytes;
 use std::alloc::{AllocError, Global};
 
-/// A replacement for the bytes of a text from the offset `begin` to the offset `end`.
+/// A replacement of the bytes of a text from the offset `begin` up to, but not including, `end`.
 #[derive(Drop)]
 pub struct Edit {
     pub begin: usize,
@@ -14,7 +14,7 @@ pub struct Edit {
     pub text: Bytes,
 }
 
-/// Returns the text in which each edit's range is replaced by the edit's text. The edits are in text order.
+/// Returns the text with the range of each edit replaced by the edit's text. The edits must be in text order.
 pub fn edited_text(alloc: Global, text: &[u8], edits: &[Edit]) -> Result<Vec<u8>, AllocError>
     ensures { IfOk result (λ edited. edited.items ≡ edited_rest 0 text.now edits.now) }
 {
@@ -29,7 +29,7 @@ pub fn edited_text(alloc: Global, text: &[u8], edits: &[Edit]) -> Result<Vec<u8>
     Ok(edited)
 }
 
-// Returns the bytes of a text from the offset `from` up to the offset `to`.
+// Returns the bytes of a text from the offset `from` up to, but not including, `to`.
 fn text_range(text: &[u8], from: usize, to: usize) -> &[u8]
     ensures { result.now ≡ text_range from to text.now }
 {

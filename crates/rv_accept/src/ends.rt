@@ -1,4 +1,4 @@
-//! Which ends of a run are accepted.
+//! Ends of runs that are accepted.
 
 ghost use Rattle.std.specs.Prelude.{◌≡◌};
 ghost use Rattle.rv_accept.specs.Ends.{ended_as_expected, ended_with_expected_kind, is_accepted_end};
@@ -8,14 +8,13 @@ use rv_rows::{ExpectedEnd, Job, RowEnd, did_run, has_expected_end, has_expected_
 /// Which ends of a run are accepted.
 #[derive(Clone, Copy, Debug, PartialEq, Eq)]
 pub enum Acceptance {
-    /// Only the expected end.
+    /// Only an end as the job expects it.
     Expected,
-    /// Also another exit code if one is expected, or another kind of fault if one is.
+    /// Also an exit with another code, if an exit is expected, and a fault of another kind, if a fault is expected.
     ExpectedKind,
 }
 
-/// Whether the end of a job's run is accepted: it is as expected, or, if `acceptance` allows that, an exit or a fault where one is
-/// expected. If the job specifies no end, exit 0 is expected.
+/// Whether the end of a job's run is accepted. A job that specifies no end expects exit 0.
 pub fn is_accepted_end(acceptance: Acceptance, job: &Job, ending: RowEnd) -> bool
     ensures { result ≡ is_accepted_end acceptance job.now ending }
 {
@@ -26,7 +25,7 @@ pub fn is_accepted_end(acceptance: Acceptance, job: &Job, ending: RowEnd) -> boo
     }
 }
 
-// Whether the job ran and ended as expected: with exit 0 if no end is expected.
+// Whether the job ran and ended as it expects; if it specifies no end, with exit 0.
 fn ended_as_expected(job: &Job, ending: RowEnd) -> bool
     ensures { result ≡ ended_as_expected job.now.expect_exit job.now.expect_end ending }
 {
@@ -38,7 +37,7 @@ fn ended_as_expected(job: &Job, ending: RowEnd) -> bool
             || has_expected_exit(Some(0), ending))
 }
 
-// Whether the job exited and expects only an exit code, or faulted and expects only a fault, whatever the code or the kind.
+// Whether the job exited and specifies only an exit code, or faulted and specifies only a fault; the code and the kind do not matter.
 fn ended_with_expected_kind(job: &Job, ending: RowEnd) -> bool
     ensures { result ≡ ended_with_expected_kind job.now.expect_exit job.now.expect_end ending }
 {

@@ -1,4 +1,4 @@
-//! The outcome for a golden file.
+//! What happens to a golden file.
 
 ghost use Rattle.std.specs.Prelude.{◌≡◌, IfOk, option_map};
 ghost use Rattle.std.specs.List.{find};
@@ -11,17 +11,17 @@ use std::alloc::{AllocError, Global};
 /// What happens to a golden file.
 #[derive(Drop)]
 pub enum GoldenFileOutcome {
-    /// Nothing: no job that was run names it.
+    /// Nothing: no job that was run names the file.
     Unclaimed,
-    /// It is skipped, since the job at this index names it and was skipped.
+    /// It is skipped, because the job at this index names it and was skipped.
     SkippedBy(usize),
-    /// It is skipped, since the jobs at these two indices give it different texts.
+    /// It is skipped, because the jobs at these two indices would give it different texts.
     Disagree(usize, usize),
-    /// It gets this text, on which all jobs that name it agree.
+    /// It gets this text, which every job that names the file would give it.
     Agreed(Bytes),
 }
 
-/// Returns the outcome for the golden file at the path: the text on which all jobs that name it agree, or why there is none.
+/// Returns what happens to the golden file at a path, according to the golden texts of the jobs.
 #[tactic(auto, unfolding(crate::specs::GoldenOutcomes::outcome_of_golden_file))]
 pub fn outcome_of_golden_file(
     alloc: Global,
@@ -36,7 +36,7 @@ pub fn outcome_of_golden_file(
     }
 }
 
-// Returns the outcome for the golden file at the path, none of whose jobs was skipped; `Unclaimed` if no job names it.
+// Returns what happens to the golden file at a path if none of its jobs was skipped; `Unclaimed` if no job names it.
 fn outcome_of_first(
     alloc: Global,
     path: &str,
@@ -51,8 +51,8 @@ fn outcome_of_first(
     }
 }
 
-// Returns the outcome for the golden file at the path, whose first golden text is `first`: that text, or that two jobs give it different
-// texts, or that the first job was skipped.
+// Returns what happens to the golden file at a path whose first golden text is `first`: it gets this text, or another job would give it a
+// different one, or the first job was skipped.
 fn outcome_of_given_text(
     alloc: Global,
     path: &str,
@@ -72,7 +72,7 @@ fn outcome_of_given_text(
     }
 }
 
-// Returns the first golden text for the file at the path whose job was skipped, or `None` if there is none.
+// Returns the first golden text for the file at a path whose job was skipped, or `None` if there is none.
 fn first_skipped_text<'a>(path: &str, golden_texts: &'a [GoldenText]) -> Option<&'a GoldenText>
     ensures { option_map (λ golden_text. golden_text.now) result ≡ find (is_of_skipped_job path.now) golden_texts.now }
 {
@@ -81,7 +81,7 @@ fn first_skipped_text<'a>(path: &str, golden_texts: &'a [GoldenText]) -> Option<
         .find(|golden_text| is_of_skipped_job(path, golden_text))
 }
 
-/// Returns the first golden text for the file at the path, or `None` if there is none.
+/// Returns the first golden text for the file at a path, or `None` if there is none.
 pub fn first_text_for_file<'a>(path: &str, golden_texts: &'a [GoldenText]) -> Option<&'a GoldenText>
     ensures { option_map (λ golden_text. golden_text.now) result ≡ find (is_for_file path.now) golden_texts.now }
 {
@@ -90,7 +90,7 @@ pub fn first_text_for_file<'a>(path: &str, golden_texts: &'a [GoldenText]) -> Op
         .find(|golden_text| is_for_file(path, golden_text))
 }
 
-/// Returns the first golden text for the file at the path that differs from `text`, or `None` if there is none.
+/// Returns the first golden text for the file at a path that is not `text`, or `None` if there is none.
 pub fn first_other_text<'a>(
     path: &str,
     text: &[u8],
@@ -104,28 +104,28 @@ pub fn first_other_text<'a>(
         .find(|golden_text| has_other_text(path, text, golden_text))
 }
 
-// Whether this golden text is for the file at the path.
+// Whether this golden text is for the file at this path.
 fn is_for_file(path: &str, golden_text: &GoldenText) -> bool
     ensures { result ≡ is_for_file path.now golden_text.now }
 {
     path == golden_text.path.as_str()
 }
 
-// Whether this golden text is for the file at the path, and its job was skipped, so that there is no text.
+// Whether this golden text is for the file at this path, and its job was skipped.
 fn is_of_skipped_job(path: &str, golden_text: &GoldenText) -> bool
     ensures { result ≡ is_of_skipped_job path.now golden_text.now }
 {
     is_for_file(path, golden_text) && golden_text.text.is_none()
 }
 
-// Whether this golden text is for the file at the path, and its text is missing or differs from `text`.
+// Whether this golden text is for the file at this path, and is not `text`.
 fn has_other_text(path: &str, text: &[u8], golden_text: &GoldenText) -> bool
     ensures { result ≡ has_other_text path.now text.now golden_text.now }
 {
     is_for_file(path, golden_text) && !is_text(text, &golden_text.text)
 }
 
-// Whether `given` is a text and equals `text`.
+// Whether `given` is the text `text`.
 fn is_text(text: &[u8], given: &Option<Bytes>) -> bool
     ensures { result ≡ is_text text.now given.now }
 {

@@ -1,4 +1,4 @@
-//! The texts that the jobs that were run give their golden files.
+//! Golden texts: what the jobs that were run would write to their golden files.
 
 ghost use Rattle.std.specs.Prelude.{◌≡◌, ◌++◌, ◌+◌, ◌^◌, ◌<◌, IfOk, OnOk, length, option_map};
 ghost use Rattle.std.specs.List.{flat_map};
@@ -11,28 +11,28 @@ use crate::runs::JobRun;
 use rv_rows::{Bytes, Job, Row, Text, Words, word_line};
 use std::alloc::{AllocError, Global};
 
-/// Which result of a run a golden file contains.
+/// Which result of a run a golden file has.
 #[derive(Clone, Copy, Debug, PartialEq, Eq)]
 pub enum GoldenKind {
-    /// The console's bytes: the key `expect_console_file`.
+    /// The console output: the file of the key `expect_console_file`.
     Console,
-    /// The signature's lines: the key `expect_signature`.
+    /// The lines of the signature: the file of the key `expect_signature`.
     Signature,
 }
 
-/// A golden file that a job names, and the text that the job gives it.
+/// A golden file that a job names, and the text that the job would write to it.
 #[derive(Drop)]
 pub struct GoldenText {
     /// The index of the job in the list, counted from 0.
     pub job: usize,
     pub kind: GoldenKind,
     pub path: Text,
-    /// `None` if the job was skipped.
+    /// The text, or `None` if the job was skipped.
     pub text: Option<Bytes>,
 }
 
-// Appends the golden texts of a job: one for its console and one for its signature, if it names golden files for them. They have no text if
-// the job is not accepted.
+// Appends the golden texts of a job: for its console and for its signature, if it names files for them. `job_and_row` is the job and its
+// row, and `is_accepted` says whether there are texts.
 fn push_golden_texts(
     alloc: Global,
     golden_texts: &mut Vec<GoldenText>,
@@ -66,7 +66,7 @@ fn push_golden_texts(
     Ok(())
 }
 
-/// Returns the golden texts of all jobs that ran, in list order.
+/// Returns the golden texts of all jobs that were run, in list order.
 pub fn golden_texts_of_runs(
     alloc: Global,
     jobs: &[Job],
@@ -101,7 +101,7 @@ fn push_golden_texts_of_runs(
     }
 }
 
-// Appends the golden texts of a job, or nothing if it was not run. They have no text if the job was skipped.
+// Appends the golden texts of a job, without texts if it was skipped. Appends nothing if the job was not run.
 fn push_golden_texts_of_run(
     alloc: Global,
     golden_texts: &mut Vec<GoldenText>,
@@ -133,7 +133,7 @@ pub fn console_path(job: &Job) -> Option<&str>
     }
 }
 
-// Appends the golden text for the file at the path: `job_and_kind` is the index of its job and the kind of result that it contains.
+// Appends the golden text for the file at a path. `job_and_kind` is the index of the job, and which result the file has.
 fn push_golden_text(
     alloc: Global,
     golden_texts: &mut Vec<GoldenText>,
@@ -154,7 +154,7 @@ fn push_golden_text(
     Ok(())
 }
 
-// Returns the console of a run, or `None` if it is not accepted.
+// Returns the console output of a run, or `None` if it is not accepted.
 fn console_if_accepted(
     alloc: Global,
     is_accepted: bool,
@@ -184,7 +184,7 @@ fn signature_if_accepted(
     Ok(Some(Bytes::new(text)))
 }
 
-// Returns the lines of a signature, as a golden file contains them; empty if there is no signature.
+// Returns the lines of a signature as a golden file has them, or an empty text if there is no signature.
 fn lines_of_signature(alloc: Global, signature: &Option<Words>) -> Result<Vec<u8>, AllocError>
     ensures { IfOk result (λ text. text.items ≡ lines_of_signature signature.now) }
 {
@@ -194,7 +194,7 @@ fn lines_of_signature(alloc: Global, signature: &Option<Words>) -> Result<Vec<u8
     }
 }
 
-// Returns a line for each word, with eight hexadecimal digits.
+// Returns a line of eight hexadecimal digits for each word.
 fn word_lines(alloc: Global, words: &[u32]) -> Result<Vec<u8>, AllocError>
     ensures { IfOk result (λ text. text.items ≡ flat_map word_line words.now) }
 {

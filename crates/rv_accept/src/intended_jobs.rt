@@ -1,4 +1,4 @@
-//! Whether a new list parses as the intended jobs.
+//! Whether an edited list has the intended jobs.
 
 ghost use Rattle.std.specs.Prelude.{◌≡◌, IsTrue, option_map};
 ghost use Rattle.rv_accept.specs.Accepted.{actual_console, actual_end, actual_exit};
@@ -8,8 +8,7 @@ ghost use Rattle.rv_accept.specs.Runs.{accepted_row, row_if_accepted};
 use crate::runs::JobRun;
 use rv_rows::{Bytes, ExpectedConsole, ExpectedEnd, Job, Region, Row, RowEnd, Symbols, Text};
 
-/// Whether `others` are the jobs of the list after accepting the runs: each accepted job expects the values of its row, and the other jobs
-/// are unchanged.
+/// Whether `others` are the intended jobs: each accepted job expects the results of its run, and the other jobs are unchanged.
 #[tactic(auto, unfolding(crate::specs::IntendedJobs::intended_jobs))]
 pub fn are_intended_jobs(jobs: &[Job], runs: &[Option<JobRun>], others: &[Job]) -> bool
     ensures { IsTrue result → others.now ≡ intended_jobs jobs.now runs.now }
@@ -23,7 +22,7 @@ pub fn are_intended_jobs(jobs: &[Job], runs: &[Option<JobRun>], others: &[Job]) 
     }
 }
 
-// Returns the row of an accepted run, or `None` if the job was not run, is not chosen or was skipped.
+// Returns the row of a job whose run is accepted, or `None` if the job was not run, is not chosen or was skipped.
 fn accepted_row(run: &Option<JobRun>) -> Option<&Row>
     ensures { option_map (λ row. row.now) result ≡ accepted_row run.now }
 {
@@ -33,7 +32,7 @@ fn accepted_row(run: &Option<JobRun>) -> Option<&Row>
     }
 }
 
-// Returns the row of a run, or `None` if its job is not chosen or was skipped.
+// Returns the row of a run, or `None` if the run is not accepted.
 fn row_if_accepted(run: &JobRun) -> Option<&Row>
     ensures { option_map (λ row. row.now) result ≡ row_if_accepted run.now }
 {
@@ -44,7 +43,7 @@ fn row_if_accepted(run: &JobRun) -> Option<&Row>
     }
 }
 
-// Whether `other` is `job` after accepting its run: it expects the values of the row, or is unchanged if there is no row.
+// Whether `other` is the job after accepting the row, or `job` itself if there is no row.
 fn is_intended_job(job: &Job, accepted: Option<&Row>, other: &Job) -> bool
     ensures { IsTrue result → other.now ≡ intended_job job.now (option_map (λ row. row.now) accepted.entry) }
 {
@@ -54,7 +53,8 @@ fn is_intended_job(job: &Job, accepted: Option<&Row>, other: &Job) -> bool
         && are_intended_values(job, accepted, other)
 }
 
-// Whether `other` expects the exit, the end and the console of the row, or the values that `job` expects if there is no row.
+// Whether `other` expects the exit code, end and console that `job` expects after accepting the row; if there is no row, those that `job`
+// expects.
 fn are_intended_values(job: &Job, accepted: Option<&Row>, other: &Job) -> bool
     ensures exit { IsTrue result → other.now.expect_exit
         ≡ (intended_job job.now (option_map (λ row. row.now) accepted.entry)).expect_exit }
@@ -81,7 +81,7 @@ fn are_intended_values(job: &Job, accepted: Option<&Row>, other: &Job) -> bool
     }
 }
 
-// Returns the new value of `expect_exit`: the actual exit code, if an exit code is expected and the run exited; otherwise the old value.
+// Returns the new value of `expect_exit`: the actual exit code if an exit code is expected and the run exited, and otherwise the old value.
 fn actual_exit(expected: Option<u32>, ending: RowEnd) -> Option<u32>
     ensures { result ≡ actual_exit expected ending }
 {
@@ -91,7 +91,7 @@ fn actual_exit(expected: Option<u32>, ending: RowEnd) -> Option<u32>
     }
 }
 
-// Returns the new value of `expect_end`: the actual kind of fault, if a fault is expected and the run faulted; otherwise the old value.
+// Returns the new value of `expect_end`: the actual kind of fault if a fault is expected and the run faulted, and otherwise the old value.
 fn actual_end(expected: Option<ExpectedEnd>, ending: RowEnd) -> Option<ExpectedEnd>
     ensures { result ≡ actual_end expected ending }
 {
@@ -103,7 +103,8 @@ fn actual_end(expected: Option<ExpectedEnd>, ending: RowEnd) -> Option<ExpectedE
     }
 }
 
-// Whether `other` is the new value of `expect_console`: the actual console if the list contains the expected text, otherwise the old value.
+// Whether `other` is the new value of the expected console: the actual console output if the expected text is in the list, and otherwise
+// the old value.
 fn is_actual_console(
     expected: &Option<ExpectedConsole>,
     console: &[u8],
@@ -135,7 +136,7 @@ fn consoles_match(console: &Option<ExpectedConsole>, other: &Option<ExpectedCons
     }
 }
 
-// Whether two jobs agree in everything except their expectations.
+// Whether two jobs are equal in everything except their expectations.
 fn differ_only_in_expectations(job: &Job, other: &Job) -> bool
     ensures name { IsTrue result → other.now.name ≡ job.now.name }
     ensures image { IsTrue result → other.now.image ≡ job.now.image }
@@ -178,7 +179,7 @@ fn region_matches(region: &Region, other: &Region) -> bool
     region.base == other.base && region.size == other.size && region.writable == other.writable
 }
 
-// Whether two signatures name equal symbols, or both are missing.
+// Whether two signatures have equal symbols, or both are missing.
 fn signatures_match(symbols: &Option<Symbols>, other: &Option<Symbols>) -> bool
     ensures { IsTrue result → other.now ≡ symbols.now }
 {

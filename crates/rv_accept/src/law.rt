@@ -1,4 +1,4 @@
-//! Laws about what is accepted; there is nothing to run.
+//! Laws of accepted results. They are proved and have no code.
 
 ghost use Rattle.std.specs.Prelude.{◌≡◌, ℕ, List, None, Option, Some, IsTrue};
 ghost use Rattle.std.specs.List.{All};
@@ -20,8 +20,8 @@ ghost use Rattle.rv_accept.specs.GoldenOutcomes.{outcome_of_golden_file, is_for_
 ghost use Rattle.rv_accept.specs.Passing.{HasExpectedEnd, AreGoldenFilesUpToDate, is_pass_or_none};
 ghost use Rattle.rv_accept.specs.Runs.{chosen_skip_reason};
 
-/// Proves that an accepted job without `same_as` meets all its expectations once they are the results of its run: its golden files contain
-/// the console's bytes and the signature's lines, and the list has the actual values.
+/// Proves that a job without `same_as` meets all its expectations once its results are accepted: its golden files have the console output
+/// and the lines of the signature, and the list has the actual values.
 pub fn accepted_jobs_meet_their_expectations()
     ensures { (acceptance : AnAcceptance) (job : Job) (outcome : Outcome) (other : Option Outcome)
         → IsTrue (is_accepted_end acceptance job outcome.ending)
@@ -30,15 +30,16 @@ pub fn accepted_jobs_meet_their_expectations()
         (Some (lines_of_signature outcome.signature)) (Some outcome.console) other) }
 {}
 
-/// Proves that a golden file gets a text only if every job that names the file gives it this text; so none of these jobs was skipped.
+/// Proves that a golden file gets a text only if every job that names the file would write this text to it. In particular, none of these
+/// jobs was skipped.
 pub fn an_agreed_text_is_given_by_each_job()
     ensures { (path text : List ℕ) (golden_texts : List AGoldenText) → outcome_of_golden_file path golden_texts ≡ outcome.Agreed text
         → All (λ golden_text. IsTrue (is_for_file path golden_text) → golden_text.text ≡ Some text) golden_texts }
 {}
 
-/// Proves that a chosen job that is not skipped does not fail in a later run: its verdict is pass, or none if it has no expectations. This
-/// holds if it ran without its expectations, has no `same_as`, and the list now has its actual values, and if the later run reads the same
-/// image and finds the earlier results in its golden files. A job that currently passes must have ended as it expects.
+/// Proves that a chosen job that was not skipped does not fail in a later run: its verdict is `pass`, or `none` if it has no expectations.
+/// It is assumed that the job was run without its expectations and has no `same_as`, that the list has its actual values, and that the
+/// later run reads the same image and finds the results in the golden files. A job that already passes must have ended as it expects.
 pub fn accepted_jobs_pass_with_their_files()
     ensures { (acceptance : AnAcceptance) (verdict : ACurrentVerdict) (job : Job) (earlier later : PlanView) (row : Row)
         → row ≡ row_of earlier (without_expectations job)

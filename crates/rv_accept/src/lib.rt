@@ -1,8 +1,8 @@
-//! What a run gives in place of its job's expectations: golden files, and values of a list.
+//! Accepting the results of runs: which golden files and values of a list they replace.
 //!
-//! A job is accepted if its run ended as expected ([`is_accepted_end`]) or if it currently passes ([`CurrentVerdict`]); a run that ended
-//! otherwise gives nothing. The jobs that name a golden file must all be accepted and give it the same text ([`outcome_of_golden_file`]).
-//! An accepted job gives exactly what makes its verdict a pass ([`accepted_jobs_meet_their_expectations`]).
+//! A job is accepted if its run ended as expected ([`is_accepted_end`]) or if it already passes ([`CurrentVerdict`]); nothing is accepted
+//! of a run that ended otherwise. A golden file is written if all jobs that name it are accepted and would write the same text
+//! ([`outcome_of_golden_file`]). A job that is accepted meets its expectations afterwards ([`accepted_jobs_meet_their_expectations`]).
 #![tactic(auto)]
 
 mod basic_string;

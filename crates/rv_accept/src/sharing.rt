@@ -1,4 +1,4 @@
-//! Which jobs run so that the outcome for a golden file is known.
+//! Which jobs must run in order to accept the chosen ones.
 
 ghost use Rattle.std.specs.Prelude.{◌≡◌, ◌++◌, ◌+◌, ◌^◌, ◌<◌, IfOk, OnOk, length, option_map};
 ghost use Rattle.rv_accept.specs.Sharing.{is_compared_with, is_file_of_selected, is_named_by_selected, is_same_path, is_index, jobs_to_run};
@@ -8,8 +8,8 @@ use crate::golden_texts::console_path;
 use rv_rows::Job;
 use std::alloc::{AllocError, Global};
 
-/// Returns for each job whether it must run: it is chosen, it shares a golden file with a chosen job, or one of these jobs names it by
-/// `same_as`.
+/// Returns for each job whether it must run: it is chosen, it shares a golden file with a chosen job, or a job that must run for one of
+/// these reasons names it by `same_as`.
 pub fn jobs_to_run(alloc: Global, jobs: &[Job], chosen: &[bool]) -> Result<Vec<bool>, AllocError>
     ensures { IfOk result (λ selection. selection.items ≡ jobs_to_run jobs.now chosen.now) }
 {
@@ -20,7 +20,8 @@ pub fn jobs_to_run(alloc: Global, jobs: &[Job], chosen: &[bool]) -> Result<Vec<b
     Ok(selection)
 }
 
-// Appends for each job whether it is selected or a later selected job names it by `same_as`. `index` is the index of the first job.
+// Appends for each job whether it is selected, or a later job that is selected names it by `same_as`. `index` is the index of the first of
+// these jobs.
 #[tactic(auto, unfolding(crate::specs::Sharing::with_compared_jobs))]
 fn push_with_compared_jobs(
     out: &mut Vec<bool>,
@@ -41,7 +42,7 @@ fn push_with_compared_jobs(
     }
 }
 
-// Whether one of the selected jobs names the job at the index `index` by `same_as`.
+// Whether one of the selected jobs names the job at `index` by `same_as`.
 #[tactic(auto, unfolding(crate::specs::Sharing::is_compared_with))]
 fn is_compared_with(index: usize, jobs: &[Job], selection: &[bool]) -> bool
     ensures { result ≡ is_compared_with index jobs.now selection.now }
@@ -55,7 +56,7 @@ fn is_compared_with(index: usize, jobs: &[Job], selection: &[bool]) -> bool
     }
 }
 
-// Whether `named` is an index and equals `index`.
+// Whether `named` is the index `index`.
 fn is_index(index: usize, named: Option<usize>) -> bool
     ensures { result ≡ is_index index named }
 {
@@ -65,8 +66,8 @@ fn is_index(index: usize, named: Option<usize>) -> bool
     }
 }
 
-// Appends for each job whether it is chosen or shares a golden file with a chosen job. `list_and_selection` has all jobs of the list, and
-// which of them are chosen.
+// Appends for each job whether it is chosen or shares a golden file with a chosen job. `list_and_selection` is the whole list, and which of
+// its jobs are chosen.
 #[tactic(auto, unfolding(crate::specs::Sharing::with_sharing_jobs))]
 fn push_with_sharing_jobs(
     selection: &mut Vec<bool>,
@@ -89,7 +90,7 @@ fn push_with_sharing_jobs(
     }
 }
 
-// Whether a job names a golden file that a selected job also names.
+// Whether a job names a golden file that a selected job names, too.
 fn shares_with_selected(jobs: &[Job], selection: &[bool], job: &Job) -> bool
     ensures { result ≡ shares_with_selected jobs.now selection.now job.now }
 {
@@ -97,7 +98,7 @@ fn shares_with_selected(jobs: &[Job], selection: &[bool], job: &Job) -> bool
         || is_file_of_selected(jobs, selection, signature_path(job))
 }
 
-// Whether `path` is a path, and a selected job names the golden file there.
+// Whether a path is given, and a selected job names the golden file there.
 fn is_file_of_selected(jobs: &[Job], selection: &[bool], path: Option<&str>) -> bool
     ensures { result ≡ is_file_of_selected jobs.now selection.now (option_map (λ path. path.now) path.entry) }
 {
@@ -107,7 +108,7 @@ fn is_file_of_selected(jobs: &[Job], selection: &[bool], path: Option<&str>) -> 
     }
 }
 
-// Whether a selected job names the golden file at the path.
+// Whether a selected job names the golden file at this path.
 #[tactic(auto, unfolding(crate::specs::Sharing::is_named_by_selected))]
 fn is_named_by_selected(path: &str, jobs: &[Job], selection: &[bool]) -> bool
     ensures { result ≡ is_named_by_selected path.now jobs.now selection.now }
@@ -122,14 +123,14 @@ fn is_named_by_selected(path: &str, jobs: &[Job], selection: &[bool]) -> bool
     }
 }
 
-// Whether the job names the golden file at the path, for its console or its signature.
+// Whether the job names the golden file at this path, for its console or its signature.
 fn names_golden_file(path: &str, job: &Job) -> bool
     ensures { result ≡ names_golden_file path.now job.now }
 {
     is_same_path(path, console_path(job)) || is_same_path(path, signature_path(job))
 }
 
-// Whether `named` is a path and equals `path`.
+// Whether `named` is the path `path`.
 fn is_same_path(path: &str, named: Option<&str>) -> bool
     ensures { result ≡ is_same_path path.now (option_map (λ path. path.now) named.entry) }
 {

@@ -9,19 +9,19 @@ use crate::runs::JobRun;
 use rv_rows::Text;
 use std::alloc::{AllocError, Global};
 
-/// A golden file that an accepted job names.
+/// A golden file that an accepted job names, and what happens to it.
 #[derive(Drop)]
 pub struct Target {
     pub path: Text,
     /// The index of the first accepted job that names it, counted from 0.
     pub job: usize,
-    /// Which result of that job's run it contains.
+    /// Which result of that job's run it has.
     pub kind: GoldenKind,
     /// What happens to it.
     pub outcome: GoldenFileOutcome,
 }
 
-/// Returns the golden files that accepted jobs name, each once, in the order in which the list names them.
+/// Returns the golden files that accepted jobs name, each once, in list order, with what happens to them.
 pub fn targets_of(
     alloc: Global,
     runs: &[Option<JobRun>],
@@ -36,7 +36,7 @@ pub fn targets_of(
     Ok(targets)
 }
 
-// Adds the golden file of a golden text to the list, if the text's job is accepted and the list does not have the file yet.
+// Adds the file of a golden text to the targets, if the text's job is accepted and the file is not among them.
 fn add_target(
     alloc: Global,
     runs: &[Option<JobRun>],
@@ -54,7 +54,7 @@ fn add_target(
     Ok(())
 }
 
-// Returns the golden file of a golden text, with the outcome for this file.
+// Returns the file of a golden text, with what happens to it.
 fn target_of(
     alloc: Global,
     golden_text: &GoldenText,
@@ -70,7 +70,7 @@ fn target_of(
     })
 }
 
-// Whether there is a run and it is accepted: its job is chosen and was not skipped.
+// Whether the job was run, and its run is accepted.
 fn is_accepted_entry(run: Option<&Option<JobRun>>) -> bool
     ensures { result ≡ is_accepted_entry (option_map (λ run. run.now) run.entry) }
 {
@@ -80,7 +80,7 @@ fn is_accepted_entry(run: Option<&Option<JobRun>>) -> bool
     }
 }
 
-// Whether the list already has the golden file at the path.
+// Whether the golden file at this path is among the targets.
 fn has_target(path: &str, targets: &[Target]) -> bool
     ensures { result ≡ has_target path.now targets.now }
 {

@@ -1,4 +1,4 @@
-//! The values of a list that an accepted run changes.
+//! The values in a list that accepting a run replaces.
 
 ghost use Rattle.std.specs.Prelude.{◌≡◌, ◌++◌, OnOk};
 ghost use Rattle.rv_accept.specs.Values.{has_expected_text, is_value_changed, new_value_text, value_key_name};
@@ -9,7 +9,7 @@ use rv_rows::{
 };
 use std::alloc::{AllocError, Global};
 
-/// A key of a job whose value is taken from its run.
+/// A key of a job whose value accepting a run can replace.
 #[derive(Clone, Copy, Debug, PartialEq, Eq)]
 pub enum ValueKey {
     Exit,
@@ -21,7 +21,7 @@ impl ValueKey {
     /// The keys, in the order in which they are reported.
     pub const ALL: [ValueKey; 3] = [ValueKey::Exit, ValueKey::End, ValueKey::Console];
 
-    /// Returns the name of the key, as the list writes it.
+    /// Returns the name of the key in a list.
     pub fn name(self) -> &'static str
         ensures { result.now ≡ value_key_name self }
     {
@@ -33,7 +33,7 @@ impl ValueKey {
     }
 }
 
-/// Whether the value of this key changes when the job is accepted with this row.
+/// Whether accepting this row changes the value of this key.
 pub fn is_value_changed(key: ValueKey, job: &Job, row: &Row) -> bool
     ensures { result ≡ is_value_changed key job.now row.now }
 {
@@ -44,7 +44,7 @@ pub fn is_value_changed(key: ValueKey, job: &Job, row: &Row) -> bool
     }
 }
 
-// Whether the console equals the text that the list contains; true if the list contains no text.
+// Whether the console output equals the expected text in the list; true if there is none.
 fn has_expected_text(expected: &Option<ExpectedConsole>, console: &[u8]) -> bool
     ensures { result ≡ has_expected_text expected.now console.now }
 {
@@ -54,7 +54,7 @@ fn has_expected_text(expected: &Option<ExpectedConsole>, console: &[u8]) -> bool
     }
 }
 
-/// Appends the new value of this key in TOML, or nothing if the run has no value for it.
+/// Appends the new value of this key in TOML. Appends nothing if the run has no value for it.
 #[tactic(auto, unfolding(crate::specs::Values::new_value_text))]
 pub fn push_new_value(
     alloc: Global,

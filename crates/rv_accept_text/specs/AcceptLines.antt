@@ -17,12 +17,12 @@ use Rattle.rv_accept_text.specs.declared.new_list.ChangedValue.{ChangedValue}
 
 -- ---- the lines
 
--- the lines about one changed value of the list; empty if its job or the job's run is missing
+-- the lines about a value in the list that changes; empty if its job or the job's run is missing
 abbrev pub value_line_of : List ℕ → ChangedValue → Option Job → Option (Option JobRun) → List ℕ
 value_line_of path value (Some job) (Some (Some run)) = value_line path value job run.row
 value_line_of path value _ _ = []
 
--- the lines about one changed value of the list
+-- the lines about a value in the list that changes
 abbrev pub value_line_in : AcceptSummary → ChangedValue → List ℕ
 value_line_in summary value = value_line_of summary.list.path.now value (slice_get summary.list.jobs.now value.job)
     (slice_get summary.runs.now value.job)
@@ -33,7 +33,8 @@ skipped_job_lines all_jobs [] runs = []
 skipped_job_lines all_jobs (job ∷ jobs) [] = []
 skipped_job_lines all_jobs (job ∷ jobs) (run ∷ runs) = skipped_job_line all_jobs job run ++ skipped_job_lines all_jobs jobs runs
 
--- the lines that `accept` prints: about changed golden files, changed values of the list, skipped jobs, and skipped golden files
+-- the lines that `accept` prints: about golden files that change, values in the list that change, jobs that were skipped, and golden files
+-- that were skipped
 abbrev pub accept_lines : AcceptSummary → List ℕ
 accept_lines summary = flat_map (file_line summary.list) summary.files.now
     ++ flat_map (value_line_in summary) summary.new.now.values.items
@@ -42,29 +43,29 @@ accept_lines summary = flat_map (file_line summary.list) summary.files.now
 
 -- ---- the last line
 
--- whether the golden file is written
+-- whether the golden file changes
 abbrev pub is_changed : ListFile → GoldenFile → Bool
 is_changed list file = is_some (new_text list file)
 
--- 1 if the Bool is true, and otherwise 0
+-- 1 if the condition is true, else 0
 abbrev pub one_if : Bool → ℕ
 one_if true = 1
 one_if false = 0
 
--- the number of files that change: the golden files that are written, and the list if it has a new text
+-- the number of files that change: golden files, and the list
 abbrev pub changed_count : AcceptSummary → ℕ
 changed_count summary = count_by (is_changed summary.list) summary.files.now + one_if (is_some summary.new.now.text)
 
--- whether there is a run, and its job is chosen and was skipped
+-- whether the job was run, is chosen and was skipped
 abbrev pub is_skipped_job : Option JobRun → Bool
 is_skipped_job None = false
 is_skipped_job (Some run) = run.is_chosen && is_some run.skip_reason
 
--- the number of chosen jobs that were skipped plus the number of golden files that were skipped
+-- the number of chosen jobs and golden files that were skipped
 abbrev pub skipped_count : AcceptSummary → ℕ
 skipped_count summary = count_by is_skipped_job summary.runs.now + count_by (is_skipped summary.list) summary.files.now
 
--- ` written, ` if files were written, or else ` would be written, `
+-- ` written, ` if files were written, else ` would be written, `
 abbrev pub writing_word : Writing → List ℕ
 writing_word writing.Written = codes " written, "
 writing_word writing.CheckOnly = codes " would be written, "

@@ -16,28 +16,28 @@ use Rattle.rv_accept_text.specs.GoldenFiles.{is_skipped, new_text}
 use Rattle.rv_accept_text.specs.declared.golden_file.GoldenFile.{GoldenFile}
 use Rattle.rv_accept_text.specs.declared.golden_file.ListFile.{ListFile}
 
--- the name of the job at the index `index`, or an empty text if there is no such job
+-- the name of the job at an index, or an empty text if there is no such job
 abbrev pub job_name : List Job → ℕ → List ℕ
 job_name jobs index = unwrap_or (option_map (λ job. job.name) (slice_get jobs index)) []
 
--- `console of ` or `signature of `, by the kind of result that a golden file contains
+-- `console of ` or `signature of `, for the result that a golden file has
 abbrev pub golden_kind_text : GoldenKind → List ℕ
 golden_kind_text golden_kind.Console = codes "console of "
 golden_kind_text golden_kind.Signature = codes "signature of "
 
--- ---- written files
+-- ---- files that change
 
--- the beginning of the line about a golden file: the sign, its path, and that it has the console or the signature of a job
+-- the first part of the line about a golden file: the sign, its path, and that it has the console or the signature of a job
 abbrev pub file_prefix : List ℕ → List Job → Target → List ℕ
 file_prefix sign jobs target = sign ++ printable_text target.path ++ codes ": " ++ golden_kind_text target.kind
     ++ printable_text (job_name jobs target.job)
 
--- the differences between the old and the new contents of a golden file: of a console by lines or bytes, of a signature by words
+-- where the old and the new contents of a golden file differ: by lines or bytes for a console, and by words for a signature
 abbrev pub golden_change : GoldenKind → List ℕ → List ℕ → List ℕ → List ℕ
 golden_change golden_kind.Console path old new = text_change (printable_text path) old new
 golden_change golden_kind.Signature path old new = word_change old new
 
--- the lines about a golden file that changes
+-- the lines about a golden file that is overwritten
 abbrev pub changed_file_line : List Job → Target → List ℕ → List ℕ → List ℕ
 changed_file_line jobs target old new = file_prefix (codes "~ ") jobs target ++ golden_change target.kind target.path old new
 
@@ -46,7 +46,7 @@ abbrev pub created_file_line : List Job → Target → List ℕ → List ℕ
 created_file_line jobs target new = file_prefix (codes "+ ") jobs target ++ (codes ", " ++ count_text (length new) (codes "byte")
     ++ codes "\n")
 
--- the lines about a golden file that is written: it is created if it has no old contents, and changed otherwise
+-- the lines about a golden file that changes: it is created if it has no old contents, and otherwise overwritten
 abbrev pub written_file_line : List Job → Target → Option (List ℕ) → List ℕ → List ℕ
 written_file_line jobs target None new = created_file_line jobs target new
 written_file_line jobs target (Some old) new = changed_file_line jobs target old new
@@ -56,38 +56,38 @@ abbrev pub file_line_of : List Job → GoldenFile → Option (List ℕ) → List
 file_line_of jobs file None = []
 file_line_of jobs file (Some new) = written_file_line jobs file.target file.old new
 
--- the lines about a golden file that is written; empty if it is not written
+-- the lines about a golden file that changes; empty if it does not
 unfoldable pub file_line : ListFile → GoldenFile → List ℕ
 file_line list file = file_line_of list.jobs.now file (new_text list file)
 
 -- ---- skipped files
 
--- the text, or an empty one if there is no text
+-- the text, or an empty text if there is none
 abbrev pub text_or_empty : Option (List ℕ) → List ℕ
 text_or_empty text = unwrap_or text []
 
--- the reason that two jobs give a golden file different texts, and where the texts differ
+-- that two jobs would write different texts to a golden file, and where the texts differ
 abbrev pub disagreeing_texts : List Job → GoldenText → GoldenText → List ℕ
 disagreeing_texts jobs first other = golden_kind_text first.kind ++ printable_text (job_name jobs first.job) ++ codes " and "
     ++ golden_kind_text other.kind ++ printable_text (job_name jobs other.job) ++ codes " differ"
     ++ byte_difference (text_or_empty first.text) (text_or_empty other.text)
 
--- the reason that two jobs give a golden file different texts, or only a line end if there is no second job
+-- that two jobs would write different texts to a golden file, or only a line feed if there is no second job
 abbrev pub other_text_reason : List Job → GoldenText → Option GoldenText → List ℕ
 other_text_reason jobs first None = codes "\n"
 other_text_reason jobs first (Some other) = disagreeing_texts jobs first other
 
--- the reason that two jobs give the golden file at the path different texts, given the file's first golden text
+-- that two jobs would write different texts to the golden file at this path, whose first golden text is given
 abbrev pub first_text_reason : List Job → List GoldenText → List ℕ → Option GoldenText → List ℕ
 first_text_reason jobs golden_texts path None = codes "\n"
 first_text_reason jobs golden_texts path (Some first) =
     other_text_reason jobs first (find (has_other_text path (text_or_empty first.text)) golden_texts)
 
--- the reason that two jobs give the golden file at the path different texts: its first golden text, and the first one that differs from it
+-- that two jobs would write different texts to the golden file at this path: its first golden text, and the first one that differs from it
 abbrev pub disagreement_text : List Job → List GoldenText → List ℕ → List ℕ
 disagreement_text jobs golden_texts path = first_text_reason jobs golden_texts path (find (is_for_file path) golden_texts)
 
--- the reason why a golden file with this outcome is skipped, with the line end
+-- why a golden file with this outcome was skipped, and a line feed
 abbrev pub file_skip_reason : List Job → List GoldenText → List ℕ → GoldenFileOutcome → List ℕ
 file_skip_reason jobs golden_texts path (outcome.SkippedBy job) = codes "job \"" ++ printable_text (job_name jobs job)
     ++ codes "\" also names this file and was skipped\n"
@@ -95,11 +95,11 @@ file_skip_reason jobs golden_texts path (outcome.Disagree job other) = disagreem
 file_skip_reason jobs golden_texts path (outcome.Agreed text) = codes "the list and the images are never overwritten\n"
 file_skip_reason jobs golden_texts path outcome.Unclaimed = codes "the list and the images are never overwritten\n"
 
--- `skipped NAME: `, the beginning of the line about a skipped job or golden file
+-- `skipped NAME: `, the first part of the line about a skipped job or golden file
 abbrev pub skipped_prefix : List ℕ → List ℕ
 skipped_prefix name = codes "skipped " ++ printable_text name ++ codes ": "
 
--- the line about a skipped golden file; empty if it is not skipped
+-- the line about a golden file that was skipped; empty if it was not
 unfoldable pub skipped_file_line : ListFile → List GoldenText → GoldenFile → List ℕ
 skipped_file_line list golden_texts file = if is_skipped list file
     then skipped_prefix file.target.path ++ file_skip_reason list.jobs.now golden_texts file.target.path file.target.outcome

@@ -1,4 +1,4 @@
-//! Everything that `accept` reports.
+//! What `accept` reports.
 
 ghost use Rattle.std.specs.Prelude.{◌≡◌, ◌≤◌, ◌<◌, ◌+◌, ◌^◌, ◌++◌, OnOk, is_some, length, min, option_map};
 ghost use Rattle.std.specs.List.{count_by, flat_map};
@@ -15,29 +15,30 @@ use rv_accept::{GoldenText, JobRun};
 use rv_rows::{Job, Span, push_spans};
 use std::alloc::{AllocError, Global};
 
-/// What `accept` accepts and what it skips.
+/// What `accept` changes and what it skips.
 #[derive(Clone, Copy)]
 pub struct AcceptSummary<'a> {
     pub list: ListFile<'a>,
     pub runs: &'a [Option<JobRun>],
-    /// The texts that jobs give their golden files.
+    /// The texts that jobs would write to their golden files.
     pub golden_texts: &'a [GoldenText],
     pub files: &'a [GoldenFile],
-    /// The new text of the list, and the values that change in it.
+    /// The edited text of the list, and the values that change in it.
     pub new: &'a NewList,
 }
 
-/// Whether files are written.
+/// Whether `accept` writes files.
 #[derive(Clone, Copy, Debug, PartialEq, Eq)]
 pub enum Writing {
-    /// Each file that changes was written.
+    /// The files that change were written.
     Written,
-    /// No file was written.
+    /// No file was written, since only a check was requested.
     CheckOnly,
 }
 
 impl<'a> AcceptSummary<'a> {
-    /// Appends the lines about changed golden files, changed values of the list, skipped jobs, and skipped golden files.
+    /// Appends the lines about golden files that change, values in the list that change, jobs that were skipped, and golden files that were
+    /// skipped.
     pub fn push_lines(&self, alloc: Global, out: &mut Vec<u8>) -> Result<(), AllocError>
         ensures { OnOk result (out.new.items ≡ out.old.items ++ accept_lines self.now) }
     {
@@ -47,7 +48,7 @@ impl<'a> AcceptSummary<'a> {
         self.push_skipped_file_lines(out)
     }
 
-    // Appends the lines about the golden files that are written, in order.
+    // Appends the lines about the golden files that change, in order.
     fn push_file_lines(&self, out: &mut Vec<u8>) -> Result<(), AllocError>
         ensures { OnOk result (out.new.items
             ≡ out.old.items ++ flat_map (file_line self.now.list) self.now.files.now) }
@@ -58,7 +59,7 @@ impl<'a> AcceptSummary<'a> {
         Ok(())
     }
 
-    // Appends the lines about the changed values of the list, in order.
+    // Appends the lines about the values in the list that change, in order.
     fn push_value_lines(&self, out: &mut Vec<u8>) -> Result<(), AllocError>
         ensures { OnOk result (out.new.items
             ≡ out.old.items ++ flat_map (value_line_in self.now) self.now.new.now.values.items) }
@@ -69,7 +70,7 @@ impl<'a> AcceptSummary<'a> {
         Ok(())
     }
 
-    // Appends the lines about one changed value of the list.
+    // Appends the lines about a value in the list that changes.
     fn push_value_line(&self, out: &mut Vec<u8>, value: &ChangedValue) -> Result<(), AllocError>
         ensures { OnOk result (out.new.items ≡ out.old.items ++ value_line_in self.now value.now) }
     {
@@ -82,7 +83,7 @@ impl<'a> AcceptSummary<'a> {
         )
     }
 
-    // Appends the lines about the skipped golden files, in order.
+    // Appends the lines about the golden files that were skipped, in order.
     fn push_skipped_file_lines(&self, out: &mut Vec<u8>) -> Result<(), AllocError>
         ensures { OnOk result (out.new.items ≡ out.old.items
             ++ flat_map (skipped_file_line self.now.list self.now.golden_texts.now) self.now.files.now) }
@@ -93,7 +94,7 @@ impl<'a> AcceptSummary<'a> {
         Ok(())
     }
 
-    /// Returns the number of files that change: the golden files that are written, and the list if it has a new text.
+    /// Returns the number of files that change: golden files, and the list.
     pub fn changed_count(&self) -> usize
         ensures { result ≡ changed_count self.now }
     {
@@ -106,7 +107,7 @@ impl<'a> AcceptSummary<'a> {
         count + self.new.text.is_some() as usize
     }
 
-    /// Returns the number of chosen jobs that were skipped plus the number of golden files that were skipped.
+    /// Returns the number of chosen jobs and golden files that were skipped.
     pub fn skipped_count(&self) -> usize
         ensures { result ≡ skipped_count self.now }
     {
@@ -145,7 +146,7 @@ impl<'a> AcceptSummary<'a> {
     }
 }
 
-// Returns ` written, ` if files were written, or else ` would be written, `.
+// Returns ` written, ` if files were written, else ` would be written, `.
 fn writing_word(writing: Writing) -> &'static str
     ensures { result.now ≡ writing_word writing }
 {
@@ -155,7 +156,7 @@ fn writing_word(writing: Writing) -> &'static str
     }
 }
 
-// Appends the lines about one changed value of the list, or nothing if its job or the job's run is missing.
+// Appends the lines about a value in the list that changes, or nothing if its job or the job's run is missing.
 fn push_value_line_of(
     out: &mut Vec<u8>,
     path: &str,
@@ -207,7 +208,7 @@ fn skipped_job_count(runs: &[Option<JobRun>]) -> usize
     count
 }
 
-// Whether there is a run, and its job is chosen and was skipped.
+// Whether the job was run, is chosen and was skipped.
 fn is_skipped_job(run: &Option<JobRun>) -> bool
     ensures { result ≡ is_skipped_job run.now }
 {

@@ -1,4 +1,4 @@
-//! The first difference between a text and its replacement.
+//! Where a text and its replacement first differ.
 
 ghost use Rattle.std.specs.Prelude.{◌≡◌, ◌++◌, OnOk, nat_eq};
 ghost use Rattle.std.specs.List.{common_prefix_len};
@@ -9,8 +9,8 @@ use rv_job_text::push_console_lines;
 use rv_rows::{Span, WORD_LINE_LEN, is_utf8, push_spans, push_text, tail_from};
 use std::alloc::AllocError;
 
-/// Appends the differences between the old and the new text: by lines if both are UTF-8, and otherwise by bytes. `source` names the old
-/// text.
+/// Appends where the old and the new text differ: line by line if both are UTF-8, and otherwise the first byte. `source` is the name of the
+/// old text.
 #[tactic(auto, unfolding(crate::specs::ChangedTexts::text_change))]
 pub(crate) fn push_text_change(
     out: &mut Vec<u8>,
@@ -28,8 +28,7 @@ pub(crate) fn push_text_change(
     }
 }
 
-/// Appends the rest of a line that shows the offset of the first difference between the old and the new text, and the text from there in
-/// both.
+/// Appends the rest of a line: the offset of the first byte that differs between the old and the new text, and both texts from there.
 #[tactic(auto, unfolding(crate::specs::ChangedTexts::byte_change))]
 pub(crate) fn push_byte_change(out: &mut Vec<u8>, old: &[u8], new: &[u8]) -> Result<(), AllocError>
     ensures { OnOk result (out.new.items ≡ out.old.items ++ byte_change old.now new.now) }
@@ -37,7 +36,7 @@ pub(crate) fn push_byte_change(out: &mut Vec<u8>, old: &[u8], new: &[u8]) -> Res
     push_values_from(out, common_prefix_len(old, new), old, new)
 }
 
-// Appends the rest of a line that shows the offset `offset`, and the old and the new text from there.
+// Appends the rest of a line: the offset, and the old and the new text from there.
 fn push_values_from<'x>(
     out: &mut Vec<u8>,
     offset: usize,
@@ -60,7 +59,7 @@ fn push_values_from<'x>(
     )
 }
 
-/// Appends the rest of a line that shows the offset of the first difference between two texts, and the text from there in both.
+/// Appends the rest of a line: the offset of the first byte that differs between two texts, and both texts from there.
 #[tactic(auto, unfolding(crate::specs::ChangedTexts::byte_difference))]
 pub(crate) fn push_byte_difference(
     out: &mut Vec<u8>,
@@ -72,7 +71,7 @@ pub(crate) fn push_byte_difference(
     push_values_of_both(out, common_prefix_len(first, second), first, second)
 }
 
-// Appends the rest of a line that shows the offset `offset`, and the text from there in both.
+// Appends the rest of a line: the offset, and both texts from there.
 fn push_values_of_both<'x>(
     out: &mut Vec<u8>,
     offset: usize,
@@ -95,7 +94,7 @@ fn push_values_of_both<'x>(
     )
 }
 
-/// Appends the rest of a line that shows the first word in which the old and the new signature differ.
+/// Appends the rest of a line: the first word that differs between the old and the new signature. Both are texts of signature files.
 #[tactic(auto, unfolding(crate::specs::ChangedTexts::word_change))]
 pub(crate) fn push_word_change(out: &mut Vec<u8>, old: &[u8], new: &[u8]) -> Result<(), AllocError>
     ensures { OnOk result (out.new.items ≡ out.old.items ++ word_change old.now new.now) }
@@ -103,7 +102,7 @@ pub(crate) fn push_word_change(out: &mut Vec<u8>, old: &[u8], new: &[u8]) -> Res
     push_word_change_at(out, common_prefix_len(old, new), old, new)
 }
 
-// Appends the rest of a line that shows the first word in which two signatures differ, whose first `len` bytes are equal.
+// Appends the rest of a line: the first word that differs between two signatures, whose texts have `len` equal leading bytes.
 fn push_word_change_at<'x>(
     out: &mut Vec<u8>,
     len: usize,
@@ -127,7 +126,7 @@ fn push_word_change_at<'x>(
     )
 }
 
-// Returns the digits of the first word of a text, or `none` if the text is empty.
+// Returns the digits of the first word of a signature's text, or `none` if the text is empty.
 fn digits_at(rest: &[u8]) -> &[u8]
     ensures { result.now ≡ digits_at rest.now }
 {

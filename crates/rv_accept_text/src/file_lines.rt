@@ -14,7 +14,7 @@ use rv_accept::{
 use rv_rows::{Bytes, Job, Span, push_spans, push_text};
 use std::alloc::AllocError;
 
-/// Appends the lines about a golden file that is written, or nothing if it is not written.
+/// Appends the lines about a golden file that changes, or nothing if it does not.
 #[tactic(auto, unfolding(crate::specs::FileLines::file_line))]
 pub(crate) fn push_file_line(
     out: &mut Vec<u8>,
@@ -29,7 +29,7 @@ pub(crate) fn push_file_line(
     }
 }
 
-// Appends the lines about a golden file that is written: it is created if it has no old contents, and changed otherwise.
+// Appends the lines about a golden file that changes: it is created if it has no old contents, and otherwise overwritten.
 fn push_written_file_line(
     out: &mut Vec<u8>,
     jobs: &[Job],
@@ -44,7 +44,7 @@ fn push_written_file_line(
     }
 }
 
-// Appends the lines about a golden file that changes.
+// Appends the lines about a golden file that is overwritten.
 fn push_changed_file_line(
     out: &mut Vec<u8>,
     jobs: &[Job],
@@ -58,7 +58,7 @@ fn push_changed_file_line(
     push_golden_change(out, target.kind, target.path.as_str(), old, text)
 }
 
-// Appends the differences between the old and the new contents of a golden file: of a console by lines or bytes, of a signature by words.
+// Appends where the old and the new contents of a golden file differ: by lines or bytes for a console, and by words for a signature.
 fn push_golden_change(
     out: &mut Vec<u8>,
     kind: GoldenKind,
@@ -94,7 +94,7 @@ fn push_created_file_line(
     )
 }
 
-// Appends the beginning of the line about a golden file: the sign, its path, and that it has the console or the signature of a job.
+// Appends the first part of the line about a golden file: the sign, its path, and that it has the console or the signature of a job.
 fn push_file_prefix<'x>(
     out: &mut Vec<u8>,
     sign: &'static str,
@@ -115,7 +115,7 @@ fn push_file_prefix<'x>(
     )
 }
 
-// Returns `console of ` or `signature of `, by the kind of result that a golden file contains.
+// Returns `console of ` or `signature of `, for the result that a golden file has.
 fn golden_kind_text(kind: GoldenKind) -> &'static str
     ensures { result.now ≡ golden_kind_text kind }
 {
@@ -125,7 +125,7 @@ fn golden_kind_text(kind: GoldenKind) -> &'static str
     }
 }
 
-/// Appends the line about a golden file that is skipped, or nothing if it is not skipped.
+/// Appends the line about a golden file that was skipped, or nothing if it was not.
 #[tactic(auto, unfolding(crate::specs::FileLines::skipped_file_line))]
 pub(crate) fn push_skipped_file_line(
     out: &mut Vec<u8>,
@@ -142,7 +142,7 @@ pub(crate) fn push_skipped_file_line(
     push_file_skip_reason(out, list.jobs, golden_texts, &file.target)
 }
 
-/// Appends `skipped NAME: `, the beginning of the line about a skipped job or golden file.
+/// Appends `skipped NAME: `, the first part of the line about a skipped job or golden file.
 pub(crate) fn push_skipped_prefix(out: &mut Vec<u8>, name: &str) -> Result<(), AllocError>
     ensures { OnOk result (out.new.items ≡ out.old.items ++ skipped_prefix name.now) }
 {
@@ -156,7 +156,7 @@ pub(crate) fn push_skipped_prefix(out: &mut Vec<u8>, name: &str) -> Result<(), A
     )
 }
 
-// Appends the reason why a golden file is skipped, with the line end.
+// Appends why a golden file was skipped, and a line feed.
 fn push_file_skip_reason(
     out: &mut Vec<u8>,
     jobs: &[Job],
@@ -188,7 +188,7 @@ fn push_file_skip_reason(
     }
 }
 
-// Appends the reason that two jobs give the golden file at the path different texts.
+// Appends that two jobs would write different texts to the golden file at a path, and a line feed.
 fn push_disagreement(
     out: &mut Vec<u8>,
     jobs: &[Job],
@@ -208,7 +208,7 @@ fn push_disagreement(
     }
 }
 
-// Appends the reason that two jobs give a golden file different texts, or only a line end if there is no second job.
+// Appends that two jobs would write different texts to a golden file, or only a line feed if there is no second job.
 fn push_other_text_reason(
     out: &mut Vec<u8>,
     jobs: &[Job],
@@ -224,7 +224,7 @@ fn push_other_text_reason(
     }
 }
 
-// Appends the reason that two jobs give a golden file different texts, and where the texts differ.
+// Appends that two jobs would write different texts to a golden file, and where the texts differ.
 fn push_disagreeing_texts(
     out: &mut Vec<u8>,
     jobs: &[Job],
@@ -247,7 +247,7 @@ fn push_disagreeing_texts(
     push_byte_difference(out, text_or_empty(&first.text), text_or_empty(&other.text))
 }
 
-// Returns the text, or an empty one if there is no text.
+// Returns the text, or an empty text if there is none.
 fn text_or_empty(text: &Option<Bytes>) -> &[u8]
     ensures { result.now ≡ text_or_empty text.now }
 {

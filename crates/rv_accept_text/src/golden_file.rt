@@ -6,7 +6,7 @@ ghost use Rattle.rv_accept_text.specs.GoldenFiles.{agreed_text, text_if_changed,
 use rv_accept::{GoldenFileOutcome, Target};
 use rv_rows::{Bytes, Job, Text};
 
-/// The path and the text of a list, and its jobs.
+/// A list: its path, its text and its jobs.
 #[derive(Clone, Copy)]
 pub struct ListFile<'a> {
     pub path: &'a str,
@@ -14,18 +14,18 @@ pub struct ListFile<'a> {
     pub jobs: &'a [Job],
 }
 
-/// A golden file that an accepted job names.
+/// A golden file that an accepted job names, with its current contents.
 #[derive(Drop)]
 pub struct GoldenFile {
     pub target: Target,
     /// The path of the file, resolved against the `--root` directory.
     pub resolved_path: Text,
-    /// The current contents; `None` if the file does not exist.
+    /// The current contents, or `None` if there is no such file.
     pub old: Option<Bytes>,
 }
 
 impl GoldenFile {
-    /// Returns the text to write, on which all jobs that name the file agree, or `None` if the file is skipped or already has this text.
+    /// Returns the text to write to the file, or `None` if the file is skipped or has this text already.
     pub fn new_text(&self, list: &ListFile<'_>) -> Option<&[u8]>
         ensures { option_map (λ text. text.now) result ≡ new_text list.now self.now }
     {
@@ -38,7 +38,8 @@ impl GoldenFile {
         }
     }
 
-    /// Returns the text on which all jobs that name the file agree, or `None` if there is none, or the file is the list or an image.
+    /// Returns the text that all jobs which name the file would write to it, or `None` if there is none, or if the file is the list or an
+    /// image.
     pub fn agreed_text(&self, list: &ListFile<'_>) -> Option<&[u8]>
         ensures { option_map (λ text. text.now) result ≡ agreed_text list.now self.now }
     {
@@ -48,7 +49,8 @@ impl GoldenFile {
         }
     }
 
-    /// Whether the file is skipped: it is the list or an image, or the jobs that name it disagree or were skipped.
+    /// Whether the file is skipped: it is the list or an image, or the jobs that name it would write different texts, or one of them was
+    /// skipped.
     pub fn is_skipped(&self, list: &ListFile<'_>) -> bool
         ensures { result ≡ is_skipped list.now self.now }
     {
@@ -59,7 +61,7 @@ impl GoldenFile {
         }
     }
 
-    /// Whether the file is the list or an image, by its path or by its contents: then it is never overwritten.
+    /// Whether the file is the list or an image, judged by its path or its contents. Such a file is never overwritten.
     pub fn is_protected(&self, list: &ListFile<'_>) -> bool
         ensures { result ≡ is_protected list.now self.now }
     {
@@ -69,7 +71,7 @@ impl GoldenFile {
     }
 }
 
-// Returns the text, or `None` if it equals the old contents of the file.
+// Returns the text, or `None` if the file has it already.
 fn text_if_changed<'a>(text: &'a [u8], old: &Option<Bytes>) -> Option<&'a [u8]>
     ensures { option_map (λ text. text.now) result ≡ text_if_changed text.now old.now }
 {
@@ -86,7 +88,7 @@ fn is_image_path(path: &str, jobs: &[Job]) -> bool
     jobs.iter().any(|job| path == job.image.as_str())
 }
 
-// Whether the old contents exist, and equal the list or begin like an ELF file.
+// Whether the file's old contents are those of the list or begin as an ELF file does.
 fn has_protected_contents(list_text: &[u8], old: &Option<Bytes>) -> bool
     ensures { result ≡ has_protected_contents list_text.now old.now }
 {

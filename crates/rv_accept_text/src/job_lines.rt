@@ -1,4 +1,4 @@
-//! The lines about jobs: values that change, and why a job is skipped.
+//! The lines about jobs: values that change, and jobs that were skipped.
 
 ghost use Rattle.std.specs.Prelude.{◌≡◌, ◌++◌, OnOk, option_map, slice_get, unwrap_or};
 ghost use Rattle.rv_accept_text.specs.FileLines.{job_name};
@@ -15,7 +15,7 @@ use rv_rows::{
 };
 use std::alloc::{AllocError, Global};
 
-/// Returns the name of the job at the index `index`, or an empty text if there is no such job.
+/// Returns the name of the job at an index, or an empty text if there is no such job.
 pub(crate) fn job_name(jobs: &[Job], index: usize) -> &str
     ensures { result.now ≡ job_name jobs.now index }
 {
@@ -25,7 +25,7 @@ pub(crate) fn job_name(jobs: &[Job], index: usize) -> &str
     }
 }
 
-/// Appends the lines about one changed value of the list.
+/// Appends the lines about a value in the list that changes.
 pub(crate) fn push_value_line(
     out: &mut Vec<u8>,
     path: &str,
@@ -39,7 +39,7 @@ pub(crate) fn push_value_line(
     push_value_change(out, value.key, job, row)
 }
 
-// Appends the beginning of the line about a changed value: the list's path, the line number, the job and the key.
+// Appends the first part of the line about a value: the list's path, the line number, the job and the key.
 fn push_value_prefix<'x>(
     out: &mut Vec<u8>,
     path: &'x str,
@@ -63,7 +63,7 @@ fn push_value_prefix<'x>(
     )
 }
 
-// Appends the rest of the line about a changed value, which shows the old and the new value of this key.
+// Appends the rest of the line about a value: its old and its new value.
 fn push_value_change(
     out: &mut Vec<u8>,
     key: ValueKey,
@@ -84,7 +84,7 @@ fn push_value_change(
     }
 }
 
-// Appends the rest of a line that shows the old and the new exit code.
+// Appends the rest of the line: the old and the new exit code.
 fn push_exit_change(
     out: &mut Vec<u8>,
     expected: Option<u32>,
@@ -114,7 +114,7 @@ fn exit_code(ending: RowEnd) -> u32
     }
 }
 
-// Appends the rest of a line that shows the old and the new kind of fault.
+// Appends the rest of the line: the old and the new kind of fault.
 fn push_end_change(
     out: &mut Vec<u8>,
     expected: Option<ExpectedEnd>,
@@ -134,7 +134,7 @@ fn push_end_change(
     )
 }
 
-// Returns the value of `expect_end` as the list writes it, or an empty text if there is none.
+// Returns the value of `expect_end` as it is in a list, or an empty text if there is none.
 fn expected_end_value(end: Option<ExpectedEnd>) -> &'static str
     ensures { result.now ≡ expected_end_value end }
 {
@@ -155,7 +155,7 @@ fn ending_fault_name(ending: RowEnd) -> &'static str
     }
 }
 
-// Returns the expected console that the list contains, or an empty text if it contains none.
+// Returns the expected console text in the list, or an empty text if there is none.
 fn inline_text(expected: &Option<ExpectedConsole>) -> &[u8]
     ensures { result.now ≡ inline_text expected.now }
 {
@@ -165,7 +165,7 @@ fn inline_text(expected: &Option<ExpectedConsole>) -> &[u8]
     }
 }
 
-/// Appends the line about a job that is chosen and was skipped, or nothing for any other job.
+/// Appends the line about a chosen job that was skipped, or nothing for any other job.
 pub(crate) fn push_skipped_job_line(
     alloc: Global,
     out: &mut Vec<u8>,
@@ -181,7 +181,7 @@ pub(crate) fn push_skipped_job_line(
     }
 }
 
-// Appends the line about a skipped job, or nothing if the job is not skipped.
+// Appends the line about a job that was skipped, or nothing if it was not.
 fn push_skipped_line(
     alloc: Global,
     out: &mut Vec<u8>,
@@ -199,7 +199,7 @@ fn push_skipped_line(
     push_text(out, "\n")
 }
 
-// Appends the reason to skip a job. `jobs_and_job` has all jobs of the list, and this job.
+// Appends why a job was skipped. `jobs_and_job` is all jobs of the list, and this job.
 fn push_skip_reason(
     alloc: Global,
     out: &mut Vec<u8>,
@@ -232,7 +232,7 @@ fn push_skip_reason(
     }
 }
 
-// Appends the reason that the result of a job differs from the result of its `same_as` job.
+// Appends that the result of a job differs from the result of its `same_as` job.
 fn push_difference(out: &mut Vec<u8>, all_jobs: &[Job], job: &Job) -> Result<(), AllocError>
     ensures { OnOk result (out.new.items ≡ out.old.items ++ difference_text all_jobs.now job.now) }
 {
@@ -246,7 +246,7 @@ fn push_difference(out: &mut Vec<u8>, all_jobs: &[Job], job: &Job) -> Result<(),
     )
 }
 
-// Returns the name of the job that `same_as` of this job names, or an empty text if there is none.
+// Returns the name of the job's `same_as` job, or an empty text if it has none.
 fn compared_job_name<'x>(all_jobs: &'x [Job], job: &Job) -> &'x str
     ensures { result.now ≡ compared_job_name all_jobs.now job.now }
 {
@@ -256,7 +256,7 @@ fn compared_job_name<'x>(all_jobs: &'x [Job], job: &Job) -> &'x str
     }
 }
 
-// Appends a key with its new value, `KEY = VALUE`, as the list would have it.
+// Appends a key with its new value, `KEY = VALUE`, as it would be in the list.
 fn push_new_entry(
     alloc: Global,
     out: &mut Vec<u8>,
@@ -269,7 +269,7 @@ fn push_new_entry(
     push_new_value(alloc, out, key, row)
 }
 
-// Appends the actual end of a run and, unless the job is refused, the expected end.
+// Appends the actual end of a run and, unless the job was refused, the expected end.
 fn push_unexpected_end(out: &mut Vec<u8>, job: &Job, ending: RowEnd) -> Result<(), AllocError>
     ensures { OnOk result (out.new.items ≡ out.old.items ++ unexpected_end_text job.now ending) }
 {
@@ -283,8 +283,8 @@ fn push_unexpected_end(out: &mut Vec<u8>, job: &Job, ending: RowEnd) -> Result<(
     }
 }
 
-// Appends the end that a job expects, `exit CODE`, `budget` or `fault KIND`; if it expects two ends, the first that this ending does not
-// meet.
+// Appends the expected end: `exit CODE`, `budget` or `fault KIND`. If the job expects both an exit code and an end, appends the first that
+// was not met.
 fn push_expected(
     out: &mut Vec<u8>,
     exit: Option<u32>,
@@ -301,7 +301,7 @@ fn push_expected(
     }
 }
 
-// Appends `budget` or `fault KIND` for an expected end, or `exit 0` if none is specified.
+// Appends an expected end: `budget` or `fault KIND`, or `exit 0` if the job specifies none.
 fn push_expected_end(out: &mut Vec<u8>, end: Option<ExpectedEnd>) -> Result<(), AllocError>
     ensures { OnOk result (out.new.items ≡ out.old.items ++ expected_end_text end) }
 {
@@ -314,7 +314,7 @@ fn push_expected_end(out: &mut Vec<u8>, end: Option<ExpectedEnd>) -> Result<(), 
     }
 }
 
-// Appends how a run ended: `exit CODE`, `fault KIND`, `budget`, or the reason why the job was refused.
+// Appends how a run ended: `exit CODE`, `fault KIND`, `budget`, or why the job was refused.
 fn push_actual_end(out: &mut Vec<u8>, ending: RowEnd) -> Result<(), AllocError>
     ensures { OnOk result (out.new.items ≡ out.old.items ++ actual_end_text ending) }
 {

@@ -1,7 +1,7 @@
-//! What `accept` reports, and the new text of a list.
+//! What `accept` reports, and the edited text of a list.
 //!
-//! [`accept_values`] replaces the values of accepted jobs in a list's text: its result parses as the intended jobs. An [`AcceptSummary`]
-//! reports each change, each rejected job and file, and their numbers.
+//! [`accept_values`] replaces the values of accepted jobs in the text of a list; the new text parses as the intended jobs. An
+//! [`AcceptSummary`] reports each change, each skipped job and file, and their numbers.
 #![tactic(auto)]
 
 mod accept_summary;
@@ -15,5 +15,5 @@ pub use accept_summary::{AcceptSummary, Writing};
 pub use golden_file::{GoldenFile, ListFile};
 pub use new_list::{ChangedValue, NewList, accept_values};
 
-// From the crates below: what this interface names, and what its callers need with it.
+// Re-exports from lower crates: the types in this interface, and what its callers need with them.
 pub use rv_list_locations::job_line_numbers;

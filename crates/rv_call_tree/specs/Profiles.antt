@@ -9,12 +9,12 @@ use Rattle.rv_call_tree.specs.Trees.{sum_over_nodes, one_if, own_steps_of, path_
 abbrev pub has_function : ℕ → List ℕ → Bool
 has_function function path = list_any (λ f. f == function) path
 
--- the number of calls of a function: the sum of the calls of the nodes whose paths end in it
+-- the number of calls of a function: the sum of `calls` over the nodes whose paths end in it
 abbrev pub calls_of_function : ℕ → List CallNode → ℕ
 calls_of_function function nodes = sum_over_nodes (λ s. steps_if (s.function == function) s.calls) nodes
 
--- the inclusive steps of a function: the sum of the steps of the nodes whose paths have it, each node counted once; `previous_path` is the
--- path of the node before these nodes
+-- the inclusive steps of a function: the sum of the own steps of the nodes whose paths have it anywhere, each node counted once;
+-- `previous_path` is the path of the node before these nodes
 abbrev pub inclusive_steps_after : ℕ → List ℕ → List CallNode → ℕ
 inclusive_steps_after function previous_path [] = 0
 inclusive_steps_after function previous_path (node ∷ nodes) = steps_if (has_function function (path_after previous_path node)) node.steps

@@ -28,14 +28,14 @@ subtrees_from index (node ∷ nodes) = subtree index node nodes ∷ subtrees_fro
 
 -- ---- by function
 
--- the subtrees whose root node ends in the function, in order
+-- the subtrees whose root node has this function, in order
 abbrev pub with_root_function : ℕ → List Subtree → List Subtree
 with_root_function function subtrees = filter (λ s. s.function == function) subtrees
 
--- the subtrees of a call tree whose root node ends in the function, in node order
+-- the subtrees of a call tree whose root node has this function, in node order
 abbrev pub subtrees_of_function : ℕ → List CallNode → List Subtree
 subtrees_of_function function nodes = with_root_function function (subtrees_from 0 nodes)
 
--- for each function, the list has the subtrees of the call tree whose root node ends in it, in node order
+-- for each function, the list has the subtrees of the call tree whose root node has that function, in node order
 abbrev pub AreSubtreesByFunction : List CallNode → List Subtree → Type 0
 AreSubtreesByFunction nodes subtrees = (function : ℕ) → with_root_function function subtrees ≡ subtrees_of_function function nodes

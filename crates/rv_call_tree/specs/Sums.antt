@@ -21,7 +21,7 @@ pub record FitsFields (node : CallNode) : Type 0 where
   pub steps : node.steps < 2 ^ 64
 
 -- the error of adding `a` and `b` is true: the calls or the steps of some path that ends in the reported function add up to 2^64 or more;
--- `OutOfMemory` is always true
+-- `OutOfMemory` says nothing of the trees and counts as true
 abbrev pub IsOverflowOfTrees : CallTreeSumError → List CallNode → List CallNode → Type 0
 IsOverflowOfTrees OutOfMemory a b = Unit {0}
 IsOverflowOfTrees (Count function) a b = (path : List ℕ) × (ends_with function path ≡ true)
@@ -33,15 +33,15 @@ IsOverflowOfTrees (Count function) a b = (path : List ℕ) × (ends_with functio
 abbrev pub comes_first : CallNode → CallNode → Bool
 comes_first node other = nat_lt other.depth node.depth || ((node.depth == other.depth) && nat_lt node.function other.function)
 
--- the node `node` as the first node of a sum, which only the first list has
+-- `node` as the first node of a sum if only the first list has it
 abbrev pub node_of_first : CallNode → NextNode
 node_of_first node = record { node = node; count_in_a = 1; count_in_b = 0 }
 
--- the node `other` as the first node of a sum, which only the second list has
+-- `other` as the first node of a sum if only the second list has it
 abbrev pub node_of_second : CallNode → NextNode
 node_of_second other = record { node = other; count_in_a = 0; count_in_b = 1 }
 
--- the sum of the counts of two nodes, as the first node of a sum, which both lists have
+-- the node with the added counts of `node` and `other`, as the first node of a sum if both lists have it
 abbrev pub sum_of_nodes : CallNode → CallNode → NextNode
 sum_of_nodes node other = record {
   node = record {

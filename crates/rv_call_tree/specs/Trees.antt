@@ -6,8 +6,8 @@ use Rattle.rv_call_tree.specs.declared.call_node.CallNode.{CallNode}
 
 -- ---- the path of a node
 
--- the path of `node`, which follows a node with the path `previous_path`: as many of the first functions of `previous_path` as the depth of
--- `node` says, and then its own function
+-- the path of `node`, which follows a node with the path `previous_path`: the first `node.depth` functions of `previous_path`, then the
+-- node's own function
 abbrev pub path_after : List ℕ → CallNode → List ℕ
 path_after previous_path node = take node.depth previous_path ++ node.function ∷ []
 
@@ -61,7 +61,7 @@ all_calls nodes = sum_over_nodes calls_of_node nodes
 abbrev pub all_steps : List CallNode → ℕ
 all_steps nodes = sum_over_nodes steps_of nodes
 
--- the steps if the condition is true, else 0
+-- `steps` if the condition is true, else 0
 abbrev pub steps_if : Bool → ℕ → ℕ
 steps_if condition steps = if condition then steps else 0
 
@@ -78,7 +78,7 @@ ends_with function (f ∷ g ∷ gs) = ends_with function (g ∷ gs)
 -- ---- nodes that form a tree
 
 -- the node may follow a node with the path `previous_path`: it is at most one deeper; if it is not deeper, its function address is greater
--- than the address of its preceding sibling, which is the function in `previous_path` at its depth
+-- than the address of its preceding sibling, which is the function of `previous_path` at this depth
 pub record MayFollow (previous_path : List ℕ) (node : CallNode) : Type 0 where
   pub within : node.depth ≤ length previous_path
   pub rising : node.depth < length previous_path → slice_index_or previous_path node.depth 0 < node.function
@@ -105,7 +105,7 @@ pub AreInPreorder-prop : (previous_path : List ℕ) (nodes : List CallNode) → 
 AreInPreorder-prop previous_path [] = Unit-prop
 AreInPreorder-prop previous_path (s ∷ ss) = ×_prop (MayFollow-prop previous_path s) (AreInPreorder-prop (path_after previous_path s) ss)
 
--- a run entered each of the nodes
+-- every node was entered at least once
 abbrev pub HasCalls : List CallNode → Type 0
 HasCalls [] = Unit {0}
 HasCalls (node ∷ nodes) = (0 < node.calls) × HasCalls nodes

@@ -5,8 +5,8 @@ use rv_base::Sequence;
 /// The nodes of a call tree in preorder; contracts see them as a list.
 pub type CallNodes = Sequence<CallNode>;
 
-/// A node of a call tree, which represents a path of functions, each of which called the next one: the first functions of the preceding
-/// node's path, as many as the node is deep, then its own function.
+/// A node of a call tree. It represents a path of functions, each of which called the next: the first `depth` functions of the preceding
+/// node's path, then the node's own function.
 #[derive(Clone, Copy, Debug, PartialEq, Eq)]
 pub struct CallNode {
     /// The number of functions before the node's own function in its path.

@@ -11,11 +11,11 @@ use crate::function_steps::FunctionSteps;
 use crate::subtree::{Subtree, subtrees_of};
 use std::alloc::{AllocError, Global};
 
-/// The nodes of a call tree with an index by function, so that the counts of a function are found without a pass over all nodes.
+/// The nodes of a call tree with an index by function, which finds the counts of a function without a pass over all nodes.
 #[derive(Drop)]
 pub struct CallTreeIndex<'s> {
     pub nodes: &'s [CallNode],
-    // The subtrees of each function, in node order.
+    // The subtree of each node, sorted by function; the subtrees of one function are in node order.
     subtrees: Vec<Subtree>,
     ghost tree: { IsTree nodes.now } by { AreInPreorder-prop [] nodes.now },
     ghost steps_fit: { all_steps nodes.now < 2 ^ 64 },
@@ -25,7 +25,7 @@ pub struct CallTreeIndex<'s> {
 }
 
 impl<'s> CallTreeIndex<'s> {
-    /// Returns an index of a call tree's nodes by function. Takes the time of a sort of the nodes, and 48 bytes of memory for each.
+    /// Returns an index of a call tree's nodes by function. Takes as long as sorting the nodes, and 48 bytes of memory for each node.
     pub fn new(alloc: Global, nodes: &'s [CallNode]) -> Result<CallTreeIndex<'s>, AllocError>
         requires tree { IsTree nodes.now }
         requires steps { all_steps nodes.now < 2 ^ 64 }
@@ -37,8 +37,8 @@ impl<'s> CallTreeIndex<'s> {
         Ok(CallTreeIndex { nodes, subtrees })
     }
 
-    /// Returns the own steps, the inclusive steps and the calls of a function. Takes time logarithmic in the number of all nodes and linear
-    /// in the number of nodes that end in the function.
+    /// Returns the own steps, the inclusive steps and the calls of a function, all 0 if no path has it. Takes time logarithmic in the
+    /// number of all nodes and linear in the number of nodes whose paths end in the function.
     pub fn steps_of(&self, function: u32) -> FunctionSteps
         ensures { AreStepsOf function self.now.nodes.now result }
     {
@@ -47,7 +47,7 @@ impl<'s> CallTreeIndex<'s> {
             inclusive: 0,
             calls: 0,
         };
-        // The end of the last subtree whose steps are counted. Subtrees that begin before it are parts of it.
+        // The end of the last subtree whose inclusive steps were added. A subtree that starts before it is nested in that one.
         let mut end = 0;
         for subtree in self.subtrees_of_function(function) {
             found.own += subtree.own;
@@ -60,7 +60,7 @@ impl<'s> CallTreeIndex<'s> {
         found
     }
 
-    // Returns the subtrees whose root node ends in the function, in node order.
+    // Returns the subtrees whose root node's path ends in the function, in node order.
     fn subtrees_of_function(&self, function: u32) -> &[Subtree]
         ensures { result.now ≡ subtrees_of_function function self.now.nodes.now }
     {

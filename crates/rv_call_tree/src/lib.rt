@@ -17,5 +17,5 @@ pub use index::CallTreeIndex;
 pub use law::{own_steps_sum_to_all, trees_with_equal_counts_are_equal};
 pub use sum::{CallTreeSumError, sum_of_call_trees};
 
-// From the crates below: what this interface names, and what its callers need with it.
+// Re-exports from lower crates: the types in this interface, and what its callers need with them.
 pub use rv_base::{Bytes, Sequence, Text};

@@ -7,7 +7,7 @@ ghost use Rattle.rv_call_tree.specs.Trees.{all_steps};
 use crate::call_node::CallNode;
 use std::alloc::{AllocError, Global};
 
-/// A node and its descendants, which follow it.
+/// A node together with its descendants, which directly follow it in preorder.
 #[derive(Clone, Copy)]
 pub(crate) struct Subtree {
     /// The node's function.
@@ -38,8 +38,8 @@ pub(crate) fn subtrees_of(alloc: Global, nodes: &[CallNode]) -> Result<Vec<Subtr
     Ok(subtrees)
 }
 
-// Returns the subtree of the node at an index. `later` has the subtrees of the nodes after it, last first. The search goes from child to
-// child, so that each subtree is read for one node only.
+// Returns the subtree of the node at an index. `later` has the subtrees of all nodes after it, in reverse node order. Only the node's
+// children are visited, so that over the whole tree each subtree is read at most once.
 fn subtree_at(nodes: &[CallNode], index: usize, later: &[Subtree]) -> Subtree
     requires within { index < length nodes.now }
     requires steps { all_steps nodes.now < 2 ^ 64 }

@@ -14,7 +14,7 @@ use std::alloc::{AllocError, Global};
 pub enum CallTreeSumError {
     /// An allocation failed.
     OutOfMemory,
-    /// A count of a node of this function would be 2^64 or more.
+    /// A count of a node with this function address would be 2^64 or more.
     Count(u32),
 }
 
@@ -28,7 +28,7 @@ impl From<AllocError> for CallTreeSumError {
 }
 
 /// Returns the sum of two call trees, in which the counts of each path are added, or an error if a count would not fit in 64 bits.
-/// Allocates only the sum.
+/// Allocates memory for the sum only.
 pub fn sum_of_call_trees(
     alloc: Global,
     a: &[CallNode],
@@ -52,7 +52,7 @@ pub fn sum_of_call_trees(
     Ok(CallNodes::new(sums))
 }
 
-/// The first node of a sum, and how many nodes of each tree it adds up.
+/// The first node of a sum, and how many nodes (0 or 1) of each tree are added up in it.
 #[derive(Clone, Copy)]
 pub(crate) struct NextNode {
     pub(crate) node: CallNode,
@@ -69,7 +69,7 @@ fn push_node(nodes: &mut Vec<CallNode>, node: CallNode) -> Result<(), AllocError
 }
 
 // Returns the first node of the sum of two lists of nodes: the deeper of their first nodes, or, if they are equally deep, the one with the
-// lower function address. If these are equal, too, it is the sum of both.
+// lower function address. If both have this depth and address, it is their sum, or an error if a count would not fit in 64 bits.
 fn next_node(a: &[CallNode], b: &[CallNode]) -> Result<NextNode, CallTreeSumError>
     requires { 0 < length a.now + length b.now }
     ensures value { IfOk result (λ next. next ≡ next_of a.now b.now) }
@@ -99,7 +99,7 @@ fn comes_first(node: CallNode, other: CallNode) -> bool
     other.depth < node.depth || (node.depth == other.depth && node.function < other.function)
 }
 
-// Returns a node as the first node of a sum, which only the first list has.
+// Returns the first node of a sum if only the first list has it.
 fn node_of_first(node: CallNode) -> NextNode
     ensures value { result ≡ node_of_first node }
     ensures fits { FitsFields result.node }
@@ -111,7 +111,7 @@ fn node_of_first(node: CallNode) -> NextNode
     }
 }
 
-// Returns a node as the first node of a sum, which only the second list has.
+// Returns the first node of a sum if only the second list has it.
 fn node_of_second(node: CallNode) -> NextNode
     ensures value { result ≡ node_of_second node }
     ensures fits { FitsFields result.node }

@@ -22,8 +22,7 @@ abbrev pub after_code : ℕ → Option Code → ℕ
 after_code pc None = pc
 after_code pc (Some code) = (pc + size_of_code code) % 0x1_0000_0000
 
--- the transfer of control of the instruction with this encoding, at the pc of the state `s`, which leads to the state `t`; x2 is the stack
--- pointer
+-- the transfer of control by the instruction with this encoding, which leads from the state `s` to the state `t`; x2 is the stack pointer
 abbrev pub transfer_by : Option Code → State → State → Transfer
 transfer_by code s t = record {
   action = instr_action (option_and_then instr_of code);
@@ -33,14 +32,14 @@ transfer_by code s t = record {
   sp = register s 2;
 }
 
--- the transfer of control of the instruction at the pc of the state `s`, which leads to the state `t`
+-- the transfer of control by the instruction that leads from the state `s` to the state `t`
 abbrev pub transfer_of : State → State → Transfer
 transfer_of s t = transfer_by (code_at s.bus s.pc) s t
 
 -- ---- a run
 
--- the transfer of the step in the state `s`, followed by the transfers that `rest` gives for the next state; empty if the step does not
--- complete
+-- the transfer of the step from the state `s`, followed by the transfers that `rest` returns for the state after it; empty if the step does
+-- not complete
 abbrev pub transfer_and_more : Result State Ending → State → (State → List Transfer) → List Transfer
 transfer_and_more (Ok t) s rest = transfer_of s t ∷ rest t
 transfer_and_more (Err e) s rest = []

@@ -10,12 +10,12 @@ use Rattle.rv_trace.specs.TextWords.{word_digits}
 use Rattle.rv_calls.specs.declared.frames.Frame.{Frame}
 use Rattle.rv_calls.specs.declared.run.Calls.{Calls}
 
--- a code address as its symbol and offset, or as a number if it has no symbol
+-- a code address as symbol and offset, or as a hexadecimal number if it has no symbol
 abbrev pub symbol_or_address : Option (List ℕ × ℕ) → ℕ → List ℕ
 symbol_or_address (Some symbol) address = symbol_text symbol
 symbol_or_address None address = word_digits address
 
--- a code address as its symbol and offset in an image with these bytes, or as a number if it has no symbol
+-- a code address as symbol and offset, with the symbols of the image in this file, or as a hexadecimal number if it has no symbol
 abbrev pub address_text : Image → List ℕ → ℕ → List ℕ
 address_text image file address = symbol_or_address (symbol_at image file address) address
 
@@ -40,11 +40,11 @@ unfoldable pub call_addresses_text : Image → List ℕ → ℕ → List Frame �
 call_addresses_text image file pc frames = address_text image file pc
     ++ flat_map (call_text image file) (take max_shown (reverse frames)) ++ hidden_count_text frames
 
--- the line that shows the pc at the end of the run and the calls which had not returned
+-- the line with the pc at the end of the run and the calls that had not returned
 unfoldable pub calls_line : Image → List ℕ → ℕ → List Frame → List ℕ
 calls_line image file pc frames = line (codes "     calls: " ++ call_addresses_text image file pc frames)
 
--- the line that shows the calls which had not returned; empty if all had returned
+-- the line of the calls that had not returned; empty if all had returned
 abbrev pub calls_text : Image → List ℕ → Calls → List ℕ
 calls_text image file calls =
     if length calls.frames == 0 then [] else calls_line image file calls.pc calls.frames

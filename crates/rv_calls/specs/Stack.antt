@@ -1,5 +1,4 @@
--- The stack of calls that have not returned, and the effect of an instruction on it (ISA manual, 2.5: the hints for a return-address
--- stack).
+-- The call stack, and what an instruction does to it (ISA manual, 2.5: the hints for a return-address stack).
 use Rattle.std.specs.Prelude.{ℕ, ◌+◌, ◌-◌, ◌==◌, Bool, true, false, not, ◌&&◌, ◌||◌, nat_lt, nat_le, if◌then◌else◌}
 use Rattle.std.specs.Prelude.{List, [], ◌∷◌, ◌++◌, length, take, Option, Some, None}
 use Rattle.std.specs.List.{suffix_len}
@@ -17,7 +16,8 @@ use Rattle.rv_calls.specs.declared.transfer.Transfer.{Transfer}
 abbrev pub is_link : ℕ → Bool
 is_link number = (number == 1) || (number == 5)
 
--- the effect of JALR in table 2.1, given whether rd is a link register, whether rs1 is one, and whether they are equal
+-- what JALR does to the call stack (ISA manual, table 2.1), given whether rd is a link register, whether rs1 is one, and whether they are
+-- equal
 abbrev pub jalr_action : Bool → Bool → Bool → StackAction
 jalr_action false false same = action.NoEffect
 jalr_action false true same = action.Pop
@@ -25,14 +25,14 @@ jalr_action true false same = action.Push
 jalr_action true true false = action.PopThenPush
 jalr_action true true true = action.Push
 
--- the effect of an instruction on the call stack, by its operation and registers: JAL pushes if rd is a link register, JALR has the effect
--- in table 2.1, and any other instruction has none
+-- what an instruction with this operation, rd and rs1 does to the call stack: JAL pushes a frame if rd is a link register, JALR follows
+-- table 2.1 of the ISA manual, and other instructions do nothing
 abbrev pub op_action : Op → ℕ → ℕ → StackAction
 op_action op.Jal rd rs1 = if is_link rd then action.Push else action.NoEffect
 op_action op.Jalr rd rs1 = jalr_action (is_link rd) (is_link rs1) (rd == rs1)
 op_action _ rd rs1 = action.NoEffect
 
--- the effect of an instruction on the call stack, or none if there is no instruction; a compressed one has the effect of its expansion
+-- what an instruction does to the call stack; nothing if there is no instruction; a compressed instruction does what its expansion does
 abbrev pub instr_action : Option Instr → StackAction
 instr_action (Some i) = op_action i.op i.rd i.rs1
 instr_action None = action.NoEffect
@@ -43,27 +43,28 @@ pushes_frame action.Push = true
 pushes_frame action.PopThenPush = true
 pushes_frame _ = false
 
--- ---- frames, the innermost last
+-- ---- the frames of a call stack, innermost last
 
 -- the maximum number of frames of a call stack
 abbrev pub max_frames : ℕ
 max_frames = 4096
 
--- how many frames remain when all at the top that pass a test are removed
+-- how many frames remain after removing, from the top, all frames that pass a test
 abbrev pub depth_below : (Frame → Bool) → List Frame → ℕ
 depth_below test frames = length frames - suffix_len test frames
 
--- the number of frames up to and including the topmost one that returns to an address, or 0 if none does
+-- the number of frames up to and including the topmost one with this return address, or 0 if there is none
 abbrev pub depth_up_to_return : ℕ → List Frame → ℕ
 depth_up_to_return to frames = depth_below (λ f. not (f.return_address == to)) frames
 
--- how many frames remain when all at the top are removed whose sp is not above this one: the stack grows down, so these functions have
--- released their part of it
+-- how many frames remain after removing, from the top, all frames whose stack pointer is not above this one; the stack grows down, so the
+-- functions of the removed frames have released their part of it
 abbrev pub depth_above : ℕ → List Frame → ℕ
 depth_above sp frames = depth_below (λ f. nat_le f.sp sp) frames
 
--- how many frames remain after a return to the address `to`: the return pops the topmost frame that returns there and all frames above it.
--- If there is none, as after `longjmp` or the first switch to a task, it pops by the sp and counts as a jump.
+-- how many frames remain after a return to the address `to`: the return pops the topmost frame with this return address and all frames
+-- above it; if there is none, as after `longjmp` or the first switch to a task, frames are popped by the stack pointer, and the return
+-- counts as a jump
 abbrev pub depth_after_return : ℕ → ℕ → List Frame → ℕ
 depth_after_return to sp frames = if depth_up_to_return to frames == 0
     then depth_above sp frames
@@ -79,7 +80,7 @@ remaining_depth _ to sp frames = length frames
 abbrev pub after_pop : List Frame → Transfer → List Frame
 after_pop frames t = take (remaining_depth t.action t.to t.sp frames) frames
 
--- whether a transfer pushes a frame onto the frames left by its pop; a call at the maximum depth counts as a jump
+-- whether a transfer pushes a frame onto the frames that remain after its pop: it is a call, and the stack is not at its maximum depth
 abbrev pub is_pushed : List Frame → Transfer → Bool
 is_pushed remaining t = pushes_frame t.action && nat_lt (length remaining) max_frames
 
@@ -87,7 +88,7 @@ is_pushed remaining t = pushes_frame t.action && nat_lt (length remaining) max_f
 abbrev pub frame_of : Transfer → Frame
 frame_of t = record { return_address = t.return_address; sp = t.sp; call = t.from }
 
--- the frames `remaining` by the pop of a transfer, with the frame that it pushes, if it pushes one
+-- the frames `remaining` after the pop of a transfer, with the frame that it pushes on top, if it pushes one
 abbrev pub after_push : List Frame → Transfer → List Frame
 after_push remaining t = if is_pushed remaining t then remaining ++ frame_of t ∷ [] else remaining
 

@@ -1,4 +1,4 @@
-//! The effect of an instruction on the stack of calls.
+//! What an instruction does to the call stack.
 
 ghost use Rattle.std.specs.Prelude.{◌≡◌, ◌==◌, Some, option_and_then};
 ghost use Rattle.rv_trace.specs.Code.{instr_of};
@@ -6,7 +6,7 @@ ghost use Rattle.rv_calls.specs.Stack.{instr_action, is_link, jalr_action, op_ac
 
 use rv_trace::{Code, Instr, Op, instr_of};
 
-/// An instruction's hint to a return-address stack (ISA manual, table 2.1).
+/// What an instruction does to the call stack, by the ISA manual's hints for a return-address stack (ISA manual, table 2.1).
 #[derive(Clone, Copy)]
 pub enum StackAction {
     /// No effect.
@@ -15,7 +15,7 @@ pub enum StackAction {
     Push,
     /// A return.
     Pop,
-    /// A return followed by a call, as in a switch between coroutines.
+    /// A return followed by a call, as when one coroutine switches to another.
     PopThenPush,
 }
 
@@ -31,7 +31,7 @@ impl StackAction {
     }
 }
 
-/// Returns the effect of an encoding's instruction on the call stack, or `NoEffect` if there is no encoding or it is illegal.
+/// Returns what the instruction of an encoding does to the call stack: `NoEffect` if there is no encoding or it is illegal.
 pub fn action_of_code(code: Option<Code>) -> StackAction
     ensures { result ≡ instr_action (option_and_then instr_of code) }
 {
@@ -44,14 +44,14 @@ pub fn action_of_code(code: Option<Code>) -> StackAction
     }
 }
 
-/// Returns the effect of an instruction on the call stack: whether it pushes a frame, pops frames, both or neither.
+/// Returns what an instruction does to the call stack.
 pub fn action_of(instr: Instr) -> StackAction
     ensures { result ≡ instr_action (Some instr) }
 {
     op_action(instr.op, instr.rd, instr.rs1)
 }
 
-// Returns the effect of an instruction on the call stack, given its operation and registers.
+// Returns what an instruction with this operation and these registers does to the call stack.
 fn op_action(op: Op, rd: u8, rs1: u8) -> StackAction
     ensures { result ≡ op_action op rd rs1 }
 {
@@ -62,7 +62,7 @@ fn op_action(op: Op, rd: u8, rs1: u8) -> StackAction
     }
 }
 
-// Returns the effect of JALR on the call stack, given its registers, by table 2.1 of the ISA manual.
+// Returns what JALR with these registers does to the call stack (ISA manual, table 2.1).
 fn jalr_action(rd: u8, rs1: u8) -> StackAction
     ensures { result ≡ jalr_action (is_link rd) (is_link rs1) (rd == rs1) }
 {
@@ -75,7 +75,7 @@ fn jalr_action(rd: u8, rs1: u8) -> StackAction
     }
 }
 
-// Whether a register holds return addresses by the standard calling convention: x1, and x5 as the alternate one.
+// Whether a register is a link register, which holds return addresses: x1, or x5 as the alternate one (ISA manual, 2.5).
 fn is_link(register: u8) -> bool
     ensures { result ≡ is_link register }
 {

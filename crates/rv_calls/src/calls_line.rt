@@ -13,12 +13,12 @@ use rv_trace::{
 };
 use std::alloc::{AllocError, Global};
 
-/// The maximum number of calls shown; with the final pc there are 32 addresses.
+/// The maximum number of calls in the line; with the final pc there are 32 addresses.
 const MAX_SHOWN: usize = 31;
 
-/// Appends the line that shows the calls which had not returned when a run ended, or nothing if all had returned: the final pc and the
-/// address of each call, innermost first, at most 32 addresses, and then the number of further calls. Addresses are shown by the symbols of
-/// the job's file, or as numbers if they have none.
+/// Appends the line of the calls that had not returned when a run ended: the final pc and the address of each call, innermost first, at
+/// most 32 addresses, and then the number of further calls. Addresses are shown as symbol and offset if the job's file has a symbol for
+/// them, and otherwise as hexadecimal numbers. Appends nothing if all calls had returned.
 pub fn push_calls_text(
     alloc: Global,
     bytes: &mut Vec<u8>,
@@ -34,7 +34,7 @@ pub fn push_calls_text(
     push_calls_line(alloc, bytes, elf, calls.pc, &calls.frames)
 }
 
-// Appends the line that shows the final pc and these calls.
+// Appends the line with the final pc and these calls.
 #[tactic(auto, unfolding(crate::specs::CallsLine::calls_line))]
 fn push_calls_line(
     alloc: Global,
@@ -98,7 +98,7 @@ fn push_call(
     push_address_text(alloc, bytes, elf, frame.call)
 }
 
-// Appends a code address as symbol and offset, or as a number if it has no symbol.
+// Appends a code address as symbol and offset, or as a hexadecimal number if it has no symbol.
 fn push_address_text(
     alloc: Global,
     bytes: &mut Vec<u8>,

@@ -1,4 +1,4 @@
-//! Frames, and the effect of a transfer of control on them.
+//! The call stack, and what a transfer of control does to it.
 
 ghost use Rattle.std.specs.Prelude.{◌≡◌, ◌==◌, ◌≤◌, not, nat_le, OnOk, length};
 ghost use Rattle.rv_calls.specs.Stack.{after_transfer, depth_above, depth_after_return, remaining_depth, depth_up_to_return, frame_of, max_frames};
@@ -19,13 +19,13 @@ pub struct Frame {
     pub call: u32,
 }
 
-/// Frames, innermost last; contracts see them as a list.
+/// The frames of a call stack, innermost last; contracts see them as a list.
 pub type Frames = Sequence<Frame>;
 
-/// The maximum number of frames kept. A call beyond it counts as a jump.
+/// The maximum number of frames. A call at this depth counts as a jump.
 pub const MAX_FRAMES: usize = 4096;
 
-/// Applies a transfer of control to the frames: first its pop, if it has one, and then its push.
+/// Applies a transfer of control to the frames: pops frames if it returns, and then pushes one if it calls.
 #[tactic(auto, unfolding(crate::specs::Stack::after_transfer))]
 pub fn apply_transfer(frames: &mut Vec<Frame>, transfer: Transfer) -> Result<(), AllocError>
     ensures { OnOk result (frames.new.items ≡ after_transfer frames.old.items transfer) }
@@ -38,7 +38,7 @@ pub fn apply_transfer(frames: &mut Vec<Frame>, transfer: Transfer) -> Result<(),
     Ok(())
 }
 
-// Returns the frame that a call with this transfer of control pushes.
+// Returns the frame that a call pushes.
 fn frame_of(transfer: Transfer) -> Frame
     ensures { result ≡ frame_of transfer }
 {
@@ -61,8 +61,8 @@ pub fn remaining_frames(frames: &[Frame], transfer: Transfer) -> usize
     }
 }
 
-// Returns how many frames remain after a return to the address `to`: those below the topmost frame that returns there. If none does, frames
-// are popped by the stack pointer.
+// Returns how many frames remain after a return to the address `to`: those below the topmost frame with this return address. If there is
+// none, pops the frames at the top whose stack pointer is not above `sp`.
 fn depth_after_return(frames: &[Frame], to: u32, sp: u32) -> usize
     ensures { result ≡ depth_after_return to sp frames.now }
 {
@@ -74,7 +74,7 @@ fn depth_after_return(frames: &[Frame], to: u32, sp: u32) -> usize
     }
 }
 
-// Returns the number of frames up to and including the topmost one that returns to an address, or 0 if none does.
+// Returns the number of frames up to and including the topmost one with the return address `to`, or 0 if there is none.
 fn depth_up_to_return(frames: &[Frame], to: u32) -> usize
     ensures { result ≡ depth_up_to_return to frames.now }
 {
@@ -85,7 +85,7 @@ fn depth_up_to_return(frames: &[Frame], to: u32) -> usize
     depth
 }
 
-// Returns how many frames remain when all at the top are removed whose stack pointer is not above `sp`.
+// Returns how many frames remain after removing, from the top, all frames whose stack pointer is not above `sp`.
 fn depth_above(frames: &[Frame], sp: u32) -> usize
     ensures { result ≡ depth_above sp frames.now }
 {

@@ -20,8 +20,8 @@ pub struct Calls {
     pub frames: Frames,
 }
 
-/// Returns the pc and the call stack at the end of a machine's run within a budget of steps. The stack is empty when the run begins. Takes
-/// longer than the run alone, and memory for at most [`MAX_FRAMES`](crate::MAX_FRAMES) frames.
+/// Returns the pc and the call stack at the end of a machine's run within a budget of steps. The stack is empty at the start. Takes longer
+/// than the run alone, and memory for at most [`MAX_FRAMES`](crate::MAX_FRAMES) frames.
 pub fn calls_of_run(alloc: Global, machine: Machine, budget: u32) -> Result<Calls, AllocError>
     ensures { IfOk result (λ calls. calls ≡ calls_of_run budget (state_of machine)) }
 {

@@ -1,4 +1,4 @@
-//! The transfer of control between instructions.
+//! Transfers of control from one instruction to the next.
 
 ghost use Rattle.std.specs.Prelude.{◌≡◌, ◌+◌, ◌%◌, MatchBool, MatchOption, Ok, Some, false, is_ok};
 ghost use Rattle.rv_trace.specs.Machine.{state_of};
@@ -10,14 +10,14 @@ ghost use Rattle.rv_calls.specs.Stack.{instr_action};
 use crate::action::{StackAction, action_of, action_of_code};
 use rv_trace::{Code, Instr, Machine, code_at, code_length};
 
-/// How a completed instruction passed control to the next.
+/// A completed instruction, as far as the call stack is concerned.
 #[derive(Clone, Copy)]
 pub struct Transfer {
-    /// The instruction's effect on the stack of calls.
+    /// What the instruction does to the call stack.
     pub action: StackAction,
     /// The instruction's address.
     pub from: u32,
-    /// The address after it, to which a call returns.
+    /// The address after the instruction, to which a call returns.
     pub return_address: u32,
     /// The address at which control continued.
     pub to: u32,
@@ -28,7 +28,8 @@ pub struct Transfer {
 /// The register number of the stack pointer.
 const SP: u8 = 2;
 
-/// Executes a machine's next instruction, and returns its transfer of control, or `None` if it does not complete.
+/// Executes a machine's next instruction, and returns its transfer of control. Returns `None` if it does not complete; the machine is
+/// unchanged then.
 pub fn next_transfer(machine: &mut Machine) -> Option<Transfer>
     ensures { MatchOption result
         ((is_ok (step_of (state_of machine.old)) ≡ false)
@@ -51,8 +52,8 @@ pub fn next_transfer(machine: &mut Machine) -> Option<Transfer>
     })
 }
 
-/// Returns the transfer of control of an instruction of `length` bytes that completed: it passed control from one pc to another. `sp` is
-/// the stack pointer before it.
+/// Returns the transfer of control of an instruction of `length` bytes at the address `from`, after which control continued at `to`. `sp`
+/// is the stack pointer before the instruction.
 pub fn transfer_by(instr: Instr, length: u32, from: u32, sp: u32, to: u32) -> Transfer
     ensures { result ≡ record { action = instr_action (Some instr); from = from; return_address = (from + length) % 0x1_0000_0000; to = to; sp = sp } }
 {

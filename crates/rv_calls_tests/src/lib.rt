@@ -1,4 +1,4 @@
-//! Tests of the calls of a run, using what `rv_calls` exports: small programs whose frames were found by hand.
+//! Tests of `rv_calls`: small programs whose call frames were determined by hand.
 #![tactic(auto)]
 
 #[cfg(test)]

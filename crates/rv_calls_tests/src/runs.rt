@@ -1,4 +1,4 @@
-//! Frames at the end of runs, by the lines of a table: a program, its budget and its frames.
+//! The call frames at the end of runs, by the lines of a table: a program, its budget and the frames.
 use rv_calls::{Bus, Isa, Machine, Map, Misaligned, Region, calls_of_run};
 use samples::{cell_of, check_equal, check_line_count, numbers};
 use std::alloc::{AllocError, Global};
@@ -6,8 +6,8 @@ use std::test::Fail;
 
 const BASE: u32 = 0x8000_0000;
 
-// Each program starts at 80000000, x2 is 0 at first, and `X` is the exit call. Frames were found by hand, the innermost last: the address
-// of the call, the return address, and x2 at the call. label | instruction set | budget | program | frames.
+// Each program starts at 80000000, x2 is 0 at first, and `X` is the exit call. Frames were determined by hand, the innermost last: the
+// address of the call, the return address, and x2 at the call. label | instruction set | budget | program | frames.
 const RUNS: &str = "\
 no call | imc | 9 | X |
 call | imc | 9 | 008000ef 00000013 X | 80000000 80000004 00000000
@@ -47,7 +47,7 @@ two tasks, behind the first switch to the higher stack | imc | 13 | \
     80001137 80000337 03c30313 800013b7 40038393 00c000ef 008000ef 00000013 00008413 00030093 00040313 00010413 00038113 00040393 00008067 fe5ff0ef X |
 ";
 
-// Endless recursion: JAL to itself, with x1 as the link register. budget | number of frames.
+// Endless recursion: a JAL that calls itself, with x1 as the link register. budget | number of frames.
 const DEPTHS: &str = "\
 1 | 1
 4095 | 4095
@@ -72,7 +72,7 @@ fn machine_of(alloc: Global, isa: Isa, program: &str) -> Result<Machine, Fail> {
     Ok(Machine::new(alloc, bus, BASE, isa)?)
 }
 
-// Returns the frames at the end of a run within a budget, in the form that a row has.
+// Returns the frames at the end of a run within a budget, as a row writes them.
 fn frames_text(alloc: Global, machine: Machine, budget: u32) -> Result<String, AllocError> {
     let mut text = String::new(alloc);
     let calls = calls_of_run(alloc, machine, budget)?;
@@ -100,7 +100,7 @@ fn check(alloc: Global, row: &str) -> Result<(), Fail> {
     )
 }
 
-// Checks with how many frames an endless recursion ends within the budget in a row.
+// Checks that endless recursion within the budget of a row ends with the number of frames of the row.
 fn check_depth(alloc: Global, row: &str) -> Result<(), Fail> {
     let machine = machine_of(alloc, Isa::Imc, "000000ef")?;
     let calls = calls_of_run(alloc, machine, cell_of(row, 0).parse::<u32>()?)?;
@@ -109,7 +109,7 @@ fn check_depth(alloc: Global, row: &str) -> Result<(), Fail> {
     check_equal(row, depth.as_str(), cell_of(row, 1))
 }
 
-// The run of each program ends with exactly the frames of the calls that have not returned.
+// At the end of each run there is one frame for each call that has not returned.
 #[test]
 fn frames_are_left_by_calls_that_have_not_returned(rt: HostRuntime) -> Result<(), Fail> {
     check_line_count(RUNS, 28)?;
@@ -119,7 +119,7 @@ fn frames_are_left_by_calls_that_have_not_returned(rt: HostRuntime) -> Result<()
     Ok(())
 }
 
-// An endless recursion ends with at most 4,096 frames.
+// Endless recursion ends with at most 4,096 frames.
 #[test]
 fn frames_are_bounded(rt: HostRuntime) -> Result<(), Fail> {
     check_line_count(DEPTHS, 5)?;

@@ -11,14 +11,14 @@ abbrev pub bad_value_text : List ℕ → List ℕ → List ℕ → List ℕ
 bad_value_text option value reason =
     codes "invalid value '" ++ (value ++ (codes "' for '" ++ (option ++ (codes "': " ++ reason))))
 
--- `message` says, with some reason, that the text of the option is not a regular expression
+-- `message` says that the value of the option is not a regular expression, for some reason
 abbrev pub IsBadPatternText : List ℕ → List ℕ → List ℕ → Type 0
 IsBadPatternText option text message = (reason : List ℕ) × (message ≡ bad_value_text option text reason)
 
--- the stop reports that the text of the option is not a regular expression, with the command's usage
+-- the stop says that the value of the option is not a regular expression, with the usage of the command
 abbrev pub IsBadPatternStop : List ℕ → List ℕ → Stop → Type 0
 IsBadPatternStop option text stop = (reason : List ℕ) × IsUsageStop (bad_value_text option text reason) stop
 
--- the stop reports this message with the command's usage, or is out of memory if the message could not be made
+-- the stop has this message with the usage of the command; out of memory if the message could not be made
 abbrev pub IsBadValueStop : Result (String Global) AllocError → Stop → Type 0
 IsBadValueStop message stop = MatchResult message (λ text. IsUsageStop (string_bytes text) stop) (λ _. stop ≡ stops.OutOfMemory)

@@ -1,4 +1,4 @@
--- Why choosing the jobs of a list stops.
+-- Why choosing the jobs of a list stopped.
 use Rattle.std.specs.Prelude.{◌≡◌, ◌≢◌, ◌⊎◌, ◌++◌, ℕ, Bool, List, Option, Some, codes, false, true}
 use Rattle.regex.specs.Patterns.{default_config}
 use Rattle.regex.specs.Sources.{IsTextRefusal}
@@ -20,34 +20,34 @@ use Rattle.rv_choice.specs.Choice.{HasDefaultOptions, is_emptied, is_found_in_na
 use Rattle.rv_choice.specs.ChosenJobs.{AreRequested}
 use Rattle.rv_choice.specs.UnknownName.{IsUnknownNameStop, unknown_name}
 
--- the text is not a regular expression: the parser rejects it, and not because memory ran out
+-- the text is not a regular expression: its parser rejects it, for another reason than that memory ran out
 abbrev pub IsNotAPattern : List ℕ → Type 0
 IsNotAPattern text = (error : patterns.Error) × (error ≢ regex_error.OutOfMemory) × IsTextRefusal default_config text error
 
--- the text of the option is not a regular expression, and the stop reports this
+-- the value of the option is not a regular expression, and the stop says so
 abbrev pub IsInvalidPatternStop : List ℕ → List ℕ → Stop → Type 0
 IsInvalidPatternStop option text stop = IsNotAPattern text × IsBadPatternStop option text stop
 
--- the text is a regular expression that matches the name of no job
+-- the text is a regular expression that is found in the name of no job
 abbrev pub IsUnmatchedPattern : List ℕ → List Job → Type 0
 IsUnmatchedPattern text jobs = (pattern : Regex) × (regex_source pattern ≡ text) × HasDefaultOptions pattern
     × (is_found_in_names (regex_pattern pattern) jobs ≡ false)
 
--- the message that the pattern of `--match` matches the name of no job of the list at `list_path`
+-- the message that the pattern of `--match` matches the name of no job; `list_path` is the path of the list
 abbrev pub unmatched_pattern_message : List ℕ → List ℕ → List ℕ
 unmatched_pattern_message list_path pattern = codes "rvtest: " ++ printable_text list_path ++ codes ": no job name matches \""
     ++ printable_value pattern ++ codes "\"\n"
 
--- why a command stopped: memory ran out, or the text of `--match` is not a regular expression, or it matches the name of no job
+-- why a command stopped: memory ran out, or the value of `--match` is not a regular expression or is found in the name of no job
 abbrev pub IsPatternStop : List ℕ → List ℕ → List Job → Stop → Type 0
 IsPatternStop list_path text jobs stop = (stop ≡ stops.OutOfMemory)
     ⊎ (IsInvalidPatternStop (codes "--match <REGEX>") text stop
     ⊎ (IsUnmatchedPattern text jobs × IsStop 2 (unmatched_pattern_message list_path text) stop))
 
--- the pattern with this text excludes all requested jobs
+-- the pattern with this text leaves none of the requested jobs
 pub record ExcludesAll (contents : Option FileContents) (args : RunArgs) (rule : Rule) (jobs : List Job) (text : List ℕ)
     : Type 0 where
-  -- the selection before any jobs are excluded
+  -- the selection before `--exclude` is applied
   pub requested_selection : List Bool
   pub notes : List ℕ
   pub are_requested : AreRequested contents args rule jobs (Some requested_selection) notes
@@ -56,33 +56,33 @@ pub record ExcludesAll (contents : Option FileContents) (args : RunArgs) (rule :
   pub default_options : HasDefaultOptions pattern
   pub nothing_left : is_emptied requested_selection (remaining_selection (regex_pattern pattern) jobs requested_selection) ≡ true
 
--- the message that the pattern of `--exclude` leaves no jobs of the list at `list_path`
+-- the message that the pattern of `--exclude` leaves no job; `list_path` is the path of the list
 abbrev pub nothing_left_message : List ℕ → List ℕ → List ℕ
 nothing_left_message list_path pattern = codes "rvtest: " ++ printable_text list_path ++ codes ": no jobs left after --exclude \"" ++ printable_value pattern
     ++ codes "\"\n"
 
--- the pattern excludes all selected jobs, and the stop reports this
+-- the pattern leaves none of the selected jobs, and the stop says so
 abbrev pub IsNothingLeftStop : List ℕ → List Job → List Bool → Regex → Stop → Type 0
 IsNothingLeftStop list_path jobs selection pattern stop = (is_emptied selection (remaining_selection (regex_pattern pattern) jobs selection) ≡ true)
     × IsStop 2 (nothing_left_message list_path (regex_source pattern)) stop
 
--- why a command stopped: the text of `--exclude` is not a regular expression, or it excludes all requested jobs
+-- why a command stopped: the value of `--exclude` is not a regular expression, or it leaves none of the requested jobs
 abbrev pub IsExclusionStop : Option FileContents → RunArgs → Rule → List Job → List ℕ → Stop → Type 0
 IsExclusionStop contents args rule jobs text stop = IsInvalidPatternStop (codes "--exclude <REGEX>") text stop
     ⊎ (ExcludesAll contents args rule jobs text × IsStop 2 (nothing_left_message args.list.now text) stop)
 
--- why choosing the jobs of a list stopped: memory ran out, a name or pattern chooses or leaves no job, or a report could not be read
+-- why choosing the jobs of a list stopped
 pub data IsChoiceStop (contents : Option FileContents) (args : RunArgs) (rule : Rule) (jobs : List Job) (stop : Stop)
     : Type 0 where
   -- memory ran out
   memory : stop ≡ stops.OutOfMemory → IsChoiceStop contents args rule jobs stop
-  -- no job has a name of `--only`
+  -- a name of `--only` is not the name of a job
   unknown : (name : List ℕ) → unknown_name jobs args.only.items ≡ Some name
       → IsUnknownNameStop args.list.now jobs name stop → IsChoiceStop contents args rule jobs stop
-  -- `--match` is not a regular expression, or it matches no job name
+  -- `--match` is not a regular expression, or is found in the name of no job
   pattern : (text : List ℕ) → borrowed_text args.pattern ≡ Some text
       → IsPatternStop args.list.now text jobs stop → IsChoiceStop contents args rule jobs stop
-  -- the report of `--failed` could not be read
+  -- the report of `--failed` could not be read or is invalid
   report : (path : List ℕ) → borrowed_text args.failed ≡ Some path
       → IsRequestedUnreadStop contents args.partial path stop → IsChoiceStop contents args rule jobs stop
   -- `--exclude` is not a regular expression, or it leaves no job

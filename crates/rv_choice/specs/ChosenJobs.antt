@@ -1,4 +1,4 @@
--- The selection of the jobs of a list that the arguments choose, and the notes about it.
+-- The jobs of a list that the arguments choose, and the notes about the choice.
 use Rattle.std.specs.Prelude.{◌≡◌, ◌↔◌, ◌++◌, ℕ, Bool, IfSome, List, [], Option, Some, None, false, option_map, true}
 use Rattle.regex.specs.Patterns.{Re}
 use Rattle.regex.specs.Strings.{regex_pattern, regex_source}
@@ -17,8 +17,8 @@ use Rattle.rv_choice.specs.Choice.{count_jobs_without_row, remaining_selection, 
 use Rattle.rv_choice.specs.FailedJobNotes.{failed_job_notes}
 use Rattle.rv_choice.specs.UnknownName.{unknown_name}
 
--- `selection` is the selection by `--only`, by the pattern, and by the names `failed` from the report at `path`, in which `missing` jobs
--- have no row; it may be absent only if nothing but failed jobs is requested, and none failed
+-- `selection` is the choice by `--only`, by the pattern and by the names `failed`, the failed jobs of the report at `path`, in which
+-- `missing` jobs of the list have no row; it is `None` only if nothing but failed jobs is requested, and no job failed
 pub record AreChosenFrom (path : List ℕ) (failed : ChosenNames) (missing : ℕ) (pattern : Option Re) (args : RunArgs)
     (jobs : List Job) (selection : Option (List Bool)) (notes : List ℕ) : Type 0 where
   pub notes_are : notes ≡ failed_job_notes path jobs failed missing
@@ -26,8 +26,8 @@ pub record AreChosenFrom (path : List ℕ) (failed : ChosenNames) (missing : ℕ
       ≡ selection_by_criteria (requested_names args.only.items) pattern (Some failed) jobs)
   pub no_selection : (selection ≡ None) ↔ ((failed ≡ []) × (args.only.items ≡ []) × (pattern ≡ None))
 
--- `selection` is the selection by `--only`, by the pattern, and by the failed rows of the report at `path`; if the report is truncated, the
--- notes begin with the number of its rows
+-- `selection` is the choice by `--only`, by the pattern and by the failed rows of the report at `path`; if the report is truncated, the
+-- notes begin with the number of its complete rows
 pub record AreChosenFromReport (contents : Option FileContents) (path : List ℕ) (pattern : Option Re) (args : RunArgs)
     (rule : Rule) (jobs : List Job) (selection : Option (List Bool)) (notes : List ℕ) : Type 0 where
   pub partial_report : PartialReport
@@ -37,8 +37,7 @@ pub record AreChosenFromReport (contents : Option FileContents) (path : List ℕ
   pub chosen : AreChosenFrom path (failed_job_names rule partial_report.report.rows)
       (count_jobs_without_row jobs partial_report.report.rows) pattern args jobs selection failure_notes
 
--- `selection` is the selection by `--only`, by the pattern and, if a report is given, by its failed rows; without a report there are no
--- notes
+-- `selection` is the choice by `--only`, by the pattern and, if a report is given, by its failed rows; without a report there are no notes
 abbrev pub AreChosenWithReport : Option FileContents → Option (Bor (List ℕ)) → Option Re → RunArgs → Rule → List Job
     → Option (List Bool) → List ℕ → Type 0
 AreChosenWithReport contents None pattern args rule jobs selection notes =
@@ -46,14 +45,14 @@ AreChosenWithReport contents None pattern args rule jobs selection notes =
 AreChosenWithReport contents (Some path) pattern args rule jobs selection notes =
     AreChosenFromReport contents path.now pattern args rule jobs selection notes
 
--- `selection` is the selection by `--only`, by the pattern, and by the report of `--failed`
+-- `selection` is the choice by `--only`, by the pattern and by the report of `--failed`
 abbrev pub AreChosenBy : Option FileContents → Option Re → RunArgs → Rule → List Job
     → Option (List Bool) → List ℕ → Type 0
 AreChosenBy contents pattern args rule jobs selection notes =
     AreChosenWithReport contents args.failed pattern args rule jobs selection notes
 
--- `selection` is the selection before any jobs are excluded, and `notes` are the notes about it: each name of `--only` is the name of a
--- job, and the pattern of `--match` matches the name of at least one job
+-- `selection` is the choice before `--exclude` is applied, and `notes` are the notes about it; each name of `--only` is the name of a job,
+-- and the pattern of `--match` is found in the name of at least one job
 pub record AreRequested (contents : Option FileContents) (args : RunArgs) (rule : Rule) (jobs : List Job)
     (selection : Option (List Bool)) (notes : List ℕ) : Type 0 where
   pub names_exist : unknown_name jobs args.only.items ≡ None
@@ -63,16 +62,16 @@ pub record AreRequested (contents : Option FileContents) (args : RunArgs) (rule 
   pub matches_a_name : IfSome pattern (λ regex. is_found_in_names (regex_pattern regex) jobs ≡ true)
   pub chosen_by : AreChosenBy contents (option_map regex_pattern pattern) args rule jobs selection notes
 
--- `remaining` is the selection without the excluded jobs; it is not empty unless the selection was empty before
+-- `remaining` is the selection without the jobs that the pattern excludes; at least one job remains if one was selected
 abbrev pub IsRemainingSelection : Option Re → List Job → Option (List Bool) → Option (List Bool) → Type 0
 IsRemainingSelection (Some pattern) jobs (Some selection) remaining =
     (remaining ≡ Some (remaining_selection pattern jobs selection)) × (is_emptied selection (remaining_selection pattern jobs selection) ≡ false)
 IsRemainingSelection _ jobs selection remaining = remaining ≡ selection
 
--- `selection` selects the jobs that the arguments choose, without the excluded ones; `notes` are the notes about the choice
+-- `selection` is what the arguments choose, including `--exclude`, and `notes` are the notes about the choice
 pub record IsChoice (contents : Option FileContents) (args : RunArgs) (rule : Rule) (jobs : List Job)
     (selection : Option (List Bool)) (notes : List ℕ) : Type 0 where
-  -- the selection before any jobs are excluded
+  -- the selection before `--exclude` is applied
   pub requested_selection : Option (List Bool)
   pub are_requested : AreRequested contents args rule jobs requested_selection notes
   pub excluded : Option Regex

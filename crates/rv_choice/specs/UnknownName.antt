@@ -12,49 +12,49 @@ use Rattle.rv_expect.specs.declared_job.Job.{Job}
 use Rattle.rv_command.specs.Printable.{printable_text, printable_value}
 use Rattle.rv_choice.specs.Choice.{has_job_named}
 
--- the first of these names that no job of the list has, or `None` if each is the name of a job
+-- the first of these names that is not the name of a job, or `None` if all are
 abbrev pub unknown_name : List Job → List (Bor (List ℕ)) → Option (List ℕ)
 unknown_name jobs names = option_map (λ name. name.now) (find (λ name. not (has_job_named jobs name.now)) names)
 
--- the beginning of the message that no job of the list at `list_path` has this name
+-- the first part of the message that no job has this name; `list_path` is the path of the list
 abbrev pub no_such_job_message : List ℕ → List ℕ → List ℕ
 no_such_job_message list_path name =
     codes "rvtest: " ++ printable_text list_path ++ codes ": no job named \"" ++ printable_value name
 
--- the text before the name at index `index` in a message with `count` names
+-- the text before the name at an index of a list with `count` names
 abbrev pub text_before_name : ℕ → ℕ → List ℕ
 text_before_name index count =
     if index == 0 then codes "\"; the jobs are \"" else if index + 1 == count then codes "\" and \"" else codes "\", \""
 
--- the names of jobs in a message with `count` names, beginning with the one at index `index`
+-- the names of jobs in a list with `count` names, from the one at an index on
 unfoldable pub names_from : ℕ → ℕ → List Job → List ℕ
 names_from index count [] = []
 names_from index count (job ∷ jobs) = (text_before_name index count ++ job.name) ++ names_from (index + 1) count jobs
 
--- " and ", how many of `count` names are not among the first 20, and " more"; empty if there are no more than 20
+-- ` and N more`, where N is how many of `count` names are not among the first 20; empty if there are none
 abbrev pub more_names_text : ℕ → List ℕ
 more_names_text count = if nat_lt 20 count then codes " and " ++ decimal (count - 20) ++ codes " more" else []
 
--- the names of the first 20 jobs, and how many more jobs there are
+-- the names of the first 20 jobs, and the number of further jobs
 abbrev pub shown_names : List Job → List ℕ
 shown_names jobs = names_from 0 (length jobs) (take 20 jobs) ++ codes "\"" ++ more_names_text (length jobs)
 
--- the job at index `index` is the one whose name is nearest, and its name is near enough to be suggested
+-- the job at this index has the most similar name, and it is similar enough to be suggested
 abbrev pub IsSuggestedJob : List Job → List ℕ → ℕ → Type 0
 IsSuggestedJob jobs name index = IsJobNameSuggestion jobs name index × IsNearJob jobs name index
 
--- the hint is the name of the job that was probably meant or, if there is none, the names of the jobs
+-- the hint is the most similar name of a job or, if none is similar enough, the names of the jobs
 abbrev pub IsNameHint : List Job → List ℕ → List ℕ → Type 0
 IsNameHint jobs name hint =
     ((index : ℕ) × IsSuggestedJob jobs name index × (hint ≡ codes "\"; a similar name exists: \"" ++ job_name jobs index ++ codes "\""))
     ⊎ (((index : ℕ) → IsSuggestedJob jobs name index → ⊥) × (hint ≡ shown_names jobs))
 
--- the message says that no job of the list has this name, with a hint
+-- the message says that no job has this name, with a hint
 abbrev pub IsUnknownNameMessage : List ℕ → List Job → List ℕ → List ℕ → Type 0
 IsUnknownNameMessage list_path jobs name message =
     (hint : List ℕ) × IsNameHint jobs name hint × (message ≡ no_such_job_message list_path name ++ hint ++ codes "\n")
 
--- memory ran out, or the stop reports that no job of the list has this name
+-- the stop says that no job has this name, or memory ran out
 abbrev pub IsUnknownNameStop : List ℕ → List Job → List ℕ → Stop → Type 0
 IsUnknownNameStop list_path jobs name stop = (stop ≡ stops.OutOfMemory)
     ⊎ ((message : List ℕ) × IsUnknownNameMessage list_path jobs name message × IsStop 2 message stop)

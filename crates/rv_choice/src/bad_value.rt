@@ -1,4 +1,4 @@
-//! Errors in values that `clap` accepts as text.
+//! Errors in the values of options that `clap` passes on as text.
 
 ghost use Rattle.std.specs.Prelude.{◌≡◌, IfOk, string_bytes};
 ghost use Rattle.rv_choice.specs.BadValues.{IsBadValueStop, bad_value_text};
@@ -7,7 +7,8 @@ use clap::error::ErrorKind;
 use rv_command::{ChoosingCommand, Stop, usage_error};
 use std::alloc::{AllocError, Global};
 
-/// Returns the message that the value of an option is invalid, and why. The option is written as in its help.
+/// Returns the message that the value of an option is invalid, and why. `option` is the option as it is in the help, such as `--match
+/// <REGEX>`.
 pub(crate) fn bad_value_text(
     alloc: Global,
     option: &str,
@@ -25,7 +26,8 @@ pub(crate) fn bad_value_text(
     Ok(text)
 }
 
-/// Returns the error for an invalid value: this message with the usage of the command, or out of memory if the message could not be made.
+/// Returns the stop for an invalid value, with this message and the usage of the command. If the message could not be made, returns
+/// `OutOfMemory`.
 pub(crate) fn bad_value_stop(
     alloc: Global,
     command: ChoosingCommand,

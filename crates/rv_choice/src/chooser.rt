@@ -1,4 +1,4 @@
-//! Choosing the jobs that the arguments request.
+//! Choosing the jobs that are requested by the arguments.
 
 ghost use Rattle.std.specs.Prelude.{◌≡◌, ◌⊎◌, ◌++◌, IfErr, IfOk, IfSome, IsSomeAnd, None, OnOk, codes, string_bytes, true};
 ghost use Rattle.std.specs.Prelude.{false, is_some, length, option_map};
@@ -27,29 +27,29 @@ use rv_command::{
 use rv_expect::{Job, Row, Rule};
 use std::alloc::{AllocError, Global};
 
-/// Chooses jobs of a list by the arguments.
+/// Chooses the jobs of a list that the arguments request.
 #[derive(Drop)]
 pub struct Chooser<'x, D> {
     pub inputs: &'x D,
     pub alloc: Global,
     pub args: &'x RunArgs<'x>,
-    /// The rule by which the rows of a report are failures.
+    /// The rule by which rows of a report count as failures.
     pub rule: Rule,
-    /// The command whose usage is shown if the arguments are rejected.
+    /// The command whose usage is shown when the arguments are rejected.
     pub command: ChoosingCommand,
 }
 
-/// The chosen jobs of a list, and the notes about the choice.
+/// The jobs of a list that were chosen, and notes about the choice.
 #[derive(Drop)]
 pub struct Choice {
-    /// For each job, whether it is chosen. `None` if only the jobs that failed in a report are requested, and none failed.
+    /// For each job, whether it was chosen. `None` if only the failed jobs of a report are requested, and none failed.
     pub selection: Option<Vec<bool>>,
-    /// The notes about the jobs that failed in a report, as lines.
+    /// The notes about the failed jobs of a report, as lines.
     pub notes: Vec<u8>,
 }
 
 impl Choice {
-    // Returns the choice with `note` before its other notes.
+    // Returns the choice with `note` put before its notes.
     fn with_leading_note(self, note: Vec<u8>) -> Result<Choice, AllocError>
         ensures selection { IfOk result (λ choice. choice.selection ≡ self.selection) }
         ensures notes { IfOk result (λ choice. choice.notes.items ≡ note.items ++ self.notes.items) }
@@ -64,7 +64,9 @@ impl Choice {
 }
 
 impl<'x, D: Inputs> Chooser<'x, D> {
-    /// Returns the jobs of the list that the arguments choose, with notes about the choice.
+    /// Returns the jobs of the list that the arguments choose, with notes about the choice. It is an error if a name of `--only` or the
+    /// pattern of `--match` fits no job, if a pattern is invalid, if the report of `--failed` cannot be read, or if `--exclude` leaves no
+    /// job.
     pub fn choose(&self, jobs: &[Job]) -> Result<Choice, Stop>
         ensures chosen { IfOk result (λ choice. IsChoice (D.contents self.now.inputs.now) self.now.args.now
             self.now.rule jobs.now (option_map (λ selection. selection.items) choice.selection) choice.notes.items) }
@@ -77,7 +79,7 @@ impl<'x, D: Inputs> Chooser<'x, D> {
         Ok(Choice { selection, notes })
     }
 
-    // Returns the jobs that the arguments request, before any are excluded.
+    // Returns the jobs that the arguments choose before `--exclude` is applied.
     fn requested_selection(&self, jobs: &[Job]) -> Result<Choice, Stop>
         ensures requested { IfOk result (λ choice. AreRequested (D.contents self.now.inputs.now) self.now.args.now
             self.now.rule jobs.now (option_map (λ selection. selection.items) choice.selection) choice.notes.items) }
@@ -89,7 +91,7 @@ impl<'x, D: Inputs> Chooser<'x, D> {
         self.choose_by_pattern(pattern.as_ref(), jobs)
     }
 
-    // Returns an error for the first name of `--only` that no job has.
+    // Returns an error if a name of `--only` is not the name of a job.
     fn check_exact_names(&self, jobs: &[Job]) -> Result<(), Stop>
         ensures known { OnOk result (unknown_name jobs.now self.now.args.now.only.items ≡ None) }
         ensures stopped { IfErr result (λ stop. IsSomeAnd (unknown_name jobs.now self.now.args.now.only.items)
@@ -101,7 +103,8 @@ impl<'x, D: Inputs> Chooser<'x, D> {
         }
     }
 
-    // Returns the pattern of `--match`, or `None` if the option is not given. A pattern that matches the name of no job is an error.
+    // Returns the pattern of `--match`, or `None` if the option is not given. It is an error if the pattern is invalid or matches the name
+    // of no job.
     fn requested_pattern(&self, jobs: &[Job]) -> Result<Option<Regex>, Stop>
         ensures source { IfOk result (λ pattern.
             option_map regex_source pattern ≡ borrowed_text self.now.args.now.pattern) }
@@ -122,7 +125,7 @@ impl<'x, D: Inputs> Chooser<'x, D> {
         }
     }
 
-    // Returns the pattern of `--exclude`, or `None` if the option is not given.
+    // Returns the pattern of `--exclude`, or `None` if the option is not given. It is an error if the pattern is invalid.
     fn requested_exclusion(&self) -> Result<Option<Regex>, Stop>
         ensures source { IfOk result (λ excluded.
             option_map regex_source excluded ≡ borrowed_text self.now.args.now.exclude) }
@@ -136,8 +139,8 @@ impl<'x, D: Inputs> Chooser<'x, D> {
         }
     }
 
-    // Returns the selection without the jobs whose names the pattern matches; unchanged if there is no pattern or no selection. It is an
-    // error if this leaves no jobs.
+    // Returns the selection without the jobs whose names the pattern matches, or unchanged if there is no pattern or no selection. It is an
+    // error if this leaves no job.
     fn without_excluded(
         &self,
         excluded: Option<&Regex>,
@@ -161,7 +164,7 @@ impl<'x, D: Inputs> Chooser<'x, D> {
         Ok(Some(remaining))
     }
 
-    // Returns the selection without the jobs whose names the pattern matches. It is an error if this leaves no jobs.
+    // Returns the selection without the jobs whose names the pattern matches. It is an error if this leaves no job.
     fn remaining_selection(
         &self,
         selection: &[bool],
@@ -181,7 +184,7 @@ impl<'x, D: Inputs> Chooser<'x, D> {
         Ok(remaining)
     }
 
-    // Returns the jobs that the pattern, `--only` and the report of `--failed` choose.
+    // Returns the jobs that the pattern of `--match`, the names of `--only` or the report of `--failed` choose.
     fn choose_by_pattern(&self, pattern: Option<&Regex>, jobs: &[Job]) -> Result<Choice, Stop>
         requires { is_some pattern ≡ is_some self.now.args.now.pattern }
         ensures chosen { IfOk result (λ choice. AreChosenBy (D.contents self.now.inputs.now)
@@ -209,7 +212,8 @@ impl<'x, D: Inputs> Chooser<'x, D> {
         Ok(choice.with_leading_note(note)?)
     }
 
-    // Returns the jobs that the pattern, `--only` and the failed rows of the report at `path` choose.
+    // Returns the jobs that the pattern of `--match`, the names of `--only` or the failed rows of a report choose. `rows` are the rows of
+    // the report at `path`.
     fn choose_from_failed_rows(
         &self,
         path: &str,
@@ -227,8 +231,8 @@ impl<'x, D: Inputs> Chooser<'x, D> {
         self.choose_from_failed_names(path, failed.as_slice(), missing, pattern, jobs)
     }
 
-    // Returns the jobs that the pattern, `--only` and the names `failed` from the report at `path` choose. `missing` is the number of jobs
-    // that have no row there.
+    // Returns the jobs that the pattern of `--match`, the names of `--only` or the names `failed` choose. These are the failed jobs of the
+    // report at `path`, in which `missing` jobs of the list have no row.
     fn choose_from_failed_names(
         &self,
         path: &str,
@@ -253,7 +257,7 @@ impl<'x, D: Inputs> Chooser<'x, D> {
         Ok(Choice { selection, notes })
     }
 
-    // Compiles the text of an option as a regular expression. If it is not one, returns an error with the usage of the command.
+    // Compiles the value of an option as a regular expression. If it is invalid, returns an error with the usage of the command.
     fn compile_pattern(&self, option: &str, text: &str) -> Result<Regex, Stop>
         ensures source { IfOk result (λ pattern. regex_source pattern ≡ text.now) }
         ensures default_options { IfOk result HasDefaultOptions }
@@ -268,7 +272,7 @@ impl<'x, D: Inputs> Chooser<'x, D> {
         }
     }
 
-    // Returns for each job, in list order, whether the pattern, `--only` or the names `failed` choose it.
+    // Returns for each job, in list order, whether the pattern, the names of `--only` or the names `failed` choose it.
     fn combined_selection(
         &self,
         pattern: Option<&Regex>,
@@ -288,7 +292,7 @@ impl<'x, D: Inputs> Chooser<'x, D> {
     }
 }
 
-// Returns the error that the text of an option is not a regular expression.
+// Returns the stop for a value of an option that is not a regular expression.
 fn bad_pattern_stop(
     alloc: Global,
     command: ChoosingCommand,
@@ -302,7 +306,7 @@ fn bad_pattern_stop(
     bad_value_stop(alloc, command, message)
 }
 
-// Returns the message that the text of an option is not a regular expression, and why.
+// Returns the message that the value of an option is not a regular expression, and why.
 fn bad_pattern_text(
     alloc: Global,
     option: &str,
@@ -348,14 +352,14 @@ fn is_any_selected(selection: &[bool]) -> bool
     selection.iter().any(|is_selected| *is_selected)
 }
 
-// Returns the error that the pattern of `--match` matches the name of no job of the list at `list_path`.
+// Returns the stop for a pattern of `--match` that matches the name of no job. `list_path` is the path of the list.
 fn unmatched_pattern_stop(alloc: Global, list_path: &str, pattern: &str) -> Stop
     ensures { IsStop 2 (unmatched_pattern_message list_path.now pattern.now) result }
 {
     Stop::rejection(unmatched_pattern_message(alloc, list_path, pattern))
 }
 
-// Returns the message that the pattern of `--match` matches the name of no job of the list at `list_path`.
+// Returns the message that the pattern of `--match` matches the name of no job. `list_path` is the path of the list.
 fn unmatched_pattern_message<'a>(
     alloc: Global,
     list_path: &'a str,
@@ -375,14 +379,14 @@ fn unmatched_pattern_message<'a>(
     )
 }
 
-// Returns the error that the pattern of `--exclude` leaves no jobs of the list at `list_path`.
+// Returns the stop for a pattern of `--exclude` that leaves no job. `list_path` is the path of the list.
 fn nothing_left_stop(alloc: Global, list_path: &str, pattern: &str) -> Stop
     ensures { IsStop 2 (nothing_left_message list_path.now pattern.now) result }
 {
     Stop::rejection(nothing_left_message(alloc, list_path, pattern))
 }
 
-// Returns the message that the pattern of `--exclude` leaves no jobs of the list at `list_path`.
+// Returns the message that the pattern of `--exclude` leaves no job. `list_path` is the path of the list.
 fn nothing_left_message<'a>(
     alloc: Global,
     list_path: &'a str,

@@ -1,4 +1,4 @@
-//! The jobs that failed in a report.
+//! The failed jobs of a report.
 
 ghost use Rattle.std.specs.Prelude.{◌≡◌, ◌++◌, IfOk, OnOk, map};
 ghost use Rattle.rv_choice.specs.Choice.{borrowed_names, failed_job_names, has_row_named, count_jobs_without_row};
@@ -10,7 +10,7 @@ use rv_command::{Span, path_message, path_number_message, push_spans};
 use rv_expect::{Job, Row, Rule, has_passed};
 use std::alloc::{AllocError, Global};
 
-/// Returns the names of the rows that failed by this rule, in order.
+/// Returns the names of the rows that failed according to this rule, in order.
 pub(crate) fn failed_job_names(
     alloc: Global,
     rule: Rule,
@@ -27,7 +27,7 @@ pub(crate) fn failed_job_names(
     Ok(names)
 }
 
-/// Returns the number of jobs whose names no row has.
+/// Returns the number of jobs that have no row.
 pub(crate) fn count_jobs_without_row(jobs: &[Job], rows: &[Row]) -> usize
     ensures { result ≡ count_jobs_without_row jobs.now rows.now }
 {
@@ -43,8 +43,8 @@ fn has_row_named(rows: &[Row], name: &str) -> bool
     rows.iter().any(|row| row.name.as_str() == name)
 }
 
-/// Returns the notes about the failed jobs, with these names, of the report at `path`: that there are none, or which are no longer in the
-/// list; and that `missing` jobs of the list have no row there.
+/// Returns the notes about the report at `path`: that no job failed, or which failed jobs, whose names are `names`, are no longer in the
+/// list; and that `missing` jobs of the list have no row in it.
 pub(crate) fn failed_job_notes(
     alloc: Global,
     path: &str,
@@ -64,8 +64,8 @@ pub(crate) fn failed_job_notes(
     Ok(notes)
 }
 
-// Returns the note that no job of the report at `path` failed. If `missing` jobs of the list have no row, the note says so only of the
-// rows.
+// Returns the note that no job failed in the report at `path`. If `missing` jobs of the list have no row, it says that none of the rows
+// failed.
 fn none_failed_note(alloc: Global, path: &str, missing: usize) -> Result<Vec<u8>, AllocError>
     ensures { IfOk result (λ note. note.items ≡ none_failed_note path.now missing) }
 {
@@ -76,7 +76,7 @@ fn none_failed_note(alloc: Global, path: &str, missing: usize) -> Result<Vec<u8>
     }
 }
 
-// Returns the note that `missing` jobs of the list have no row; empty if there are none.
+// Returns the note that `missing` jobs of the list have no row in the report at `path`; empty if all have one.
 fn missing_rows_note(alloc: Global, path: &str, missing: usize) -> Result<Vec<u8>, AllocError>
     ensures { IfOk result (λ note. note.items ≡ missing_rows_note path.now missing) }
 {
@@ -86,7 +86,7 @@ fn missing_rows_note(alloc: Global, path: &str, missing: usize) -> Result<Vec<u8
     path_number_message(alloc, path, ": note: ", missing, missing_rows_text(missing))
 }
 
-// Returns the end of the note that `missing` jobs of the list have no row, in the singular or the plural.
+// Returns the end of the note about jobs without a row, in the singular or the plural.
 fn missing_rows_text(missing: usize) -> &'static str
     ensures { result.now ≡ missing_rows_text missing }
 {
@@ -97,7 +97,7 @@ fn missing_rows_text(missing: usize) -> &'static str
     }
 }
 
-// Returns a note for each of these names of failed jobs that is no longer in the list, in order.
+// Returns a note for each of these failed jobs that is no longer in the list, in order.
 fn removed_job_notes(
     alloc: Global,
     path: &str,
@@ -113,7 +113,7 @@ fn removed_job_notes(
     Ok(notes)
 }
 
-// Appends a note if the failed job with this name is no longer in the list.
+// Appends a note if this failed job is no longer in the list.
 fn push_failed_job_note(
     notes: &mut Vec<u8>,
     path: &str,

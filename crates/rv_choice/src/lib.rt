@@ -1,6 +1,6 @@
 //! The jobs of a list that the arguments choose: by names, by a pattern, by the failures of a report, or as a shard of the list.
 //!
-//! [`Chooser::choose`] returns the selection, and [`requested_shard`] the requested shard.
+//! [`Chooser::choose`] returns the chosen jobs, and [`requested_shard`] the requested shard.
 #![tactic(auto)]
 
 mod bad_value;

@@ -1,4 +1,4 @@
-//! Which jobs of a list are chosen by their names: one flag for each job.
+//! Selections: which jobs of a list are chosen by their names, as a flag for each job.
 
 ghost use Rattle.std.specs.Prelude.{◌≡◌, IfOk, length, option_map};
 ghost use Rattle.regex.specs.Strings.{matcher_pattern, regex_pattern};
@@ -10,18 +10,19 @@ use regex::{Matcher, Regex};
 use rv_expect::Job;
 use std::alloc::{AllocError, Global};
 
-/// The criteria that choose jobs: a job is chosen if one of them chooses it. Without criteria every job is chosen.
+/// The criteria by which jobs are chosen. A job is chosen if it meets at least one of those that are given; if none is given, every job is
+/// chosen.
 #[derive(Clone, Copy)]
 pub(crate) struct Criteria<'a> {
-    /// The names of the chosen jobs.
+    /// The names of jobs to choose.
     pub(crate) only: Option<&'a [&'a str]>,
-    /// A pattern that matches anywhere in the names of the chosen jobs.
+    /// A pattern that is found in the names of jobs to choose.
     pub(crate) pattern: Option<&'a Regex>,
     /// The names of the jobs that failed in a report.
     pub(crate) failed: Option<&'a [&'a str]>,
 }
 
-/// Returns for each job, in list order, whether these criteria choose it.
+/// Returns for each job, in list order, whether it is chosen by these criteria.
 pub(crate) fn selection_by_criteria(
     alloc: Global,
     jobs: &[Job],
@@ -75,8 +76,7 @@ fn matcher_of(alloc: Global, pattern: Option<&Regex>) -> Result<Option<Matcher<'
     }
 }
 
-// Whether a job with this name is chosen: by the names of `--only`, by the pattern, or by the names of failed jobs; every job is, if none
-// of these is given.
+// Whether a job with this name is chosen by these criteria. `matcher` is for their pattern.
 fn is_chosen_name(criteria: Criteria<'_>, matcher: &mut Option<Matcher<'_>>, name: &str) -> bool
     requires { option_map matcher_pattern matcher.old ≡ pattern_of criteria.pattern }
     ensures chosen { result ≡ is_chosen_name (optional_names criteria.entry.only)
@@ -90,8 +90,8 @@ fn is_chosen_name(criteria: Criteria<'_>, matcher: &mut Option<Matcher<'_>>, nam
     )
 }
 
-// Whether a job is chosen, given the result of each criterion, which is `None` if the criterion is not given: at least one chooses the job,
-// or none is given.
+// Whether a job is chosen. Each argument says whether the job meets a criterion, or is `None` if that is not given: it must meet at least
+// one, unless none is given.
 fn is_chosen(by_name: Option<bool>, by_pattern: Option<bool>, by_report: Option<bool>) -> bool
     ensures { result ≡ is_chosen by_name by_pattern by_report }
 {
@@ -103,7 +103,7 @@ fn is_chosen(by_name: Option<bool>, by_pattern: Option<bool>, by_report: Option<
     }
 }
 
-// Whether `name` is one of the names, or `None` if there are no names.
+// Whether `name` is one of the names, or `None` if no names are given.
 fn choice_by_names(names: Option<&[&str]>, name: &str) -> Option<bool>
     ensures { result ≡ choice_by_names (optional_names names.entry) name.now }
 {
@@ -120,7 +120,7 @@ fn is_among_names(names: &[&str], name: &str) -> bool
     names.contains(&name)
 }
 
-// Whether the pattern matches anywhere in this name, or `None` if there is no pattern.
+// Whether the pattern is found in this name, or `None` if no pattern is given.
 fn choice_by_pattern(matcher: &mut Option<Matcher<'_>>, name: &str) -> Option<bool>
     ensures value { result ≡ choice_by_pattern (option_map matcher_pattern matcher.old) name.now }
     ensures pattern_unchanged { option_map matcher_pattern matcher.new ≡ option_map matcher_pattern matcher.old }
@@ -131,7 +131,7 @@ fn choice_by_pattern(matcher: &mut Option<Matcher<'_>>, name: &str) -> Option<bo
     }
 }
 
-/// Returns the first of these names that no job has, or `None` if each is the name of a job.
+/// Returns the first of these names that is not the name of a job, or `None` if all are.
 pub(crate) fn first_unknown_name<'a>(jobs: &[Job], names: &[&'a str]) -> Option<&'a str>
     ensures { option_map (λ name. name.now) result ≡ unknown_name jobs.now names.now }
 {

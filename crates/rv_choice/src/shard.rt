@@ -18,8 +18,8 @@ use rv_expect::Shard;
 use sha2::{Digest, Sha256};
 use std::alloc::{AllocError, Global};
 
-/// Returns the requested shard of a list with `jobs` jobs, or `None` without `--shard`. The default stamp is the first 16 hexadecimal
-/// digits of the SHA-256 of the list's text.
+/// Returns the requested shard of a list with `jobs` jobs and this text, or `None` if `--shard` is not given. If no stamp is given, it is
+/// the first 16 hexadecimal digits of the SHA-256 of the text. It is an error if the value of `--shard` or `--stamp` is invalid.
 pub fn requested_shard(
     alloc: Global,
     args: &RunArgs<'_>,
@@ -73,7 +73,7 @@ fn shard_numbers(text: &str) -> Option<(u32, u32)>
     }
 }
 
-// Parses a number that consists only of digits. Returns `None` for any other text, or if the number does not fit in 32 bits.
+// Parses a number that consists of digits only. Returns `None` for any other text, and for a number that does not fit in 32 bits.
 fn parse_digits(text: &str) -> Option<u32>
     ensures { MatchOption result (IsNumeral 10 text.now → 2 ^ 32 ≤ digits_value 10 text.now)
         (λ number. IsNumeral 10 text.now × (number ≡ digits_value 10 text.now)) }
@@ -101,7 +101,7 @@ fn list_digest(alloc: Global, text: &[u8]) -> Result<String, AllocError>
     hex::encode(alloc, &digest[..8])
 }
 
-// Returns the error that the text of `--shard` is not `K/N`, with the usage of the command.
+// Returns the stop for a value of `--shard` that is not `K/N`, with the usage of the command.
 fn bad_shard_stop(alloc: Global, command: ChoosingCommand, text: &str) -> Stop
     ensures { IsUsageStop (bad_shard_text text.now) result }
 {
@@ -110,7 +110,7 @@ fn bad_shard_stop(alloc: Global, command: ChoosingCommand, text: &str) -> Stop
     bad_value_stop(alloc, command, message)
 }
 
-// Returns the error that the text of `--stamp` is not a name, with the usage of the command.
+// Returns the stop for a value of `--stamp` that is not a name, with the usage of the command.
 fn bad_stamp_stop(alloc: Global, command: ChoosingCommand, stamp: &str) -> Stop
     ensures { IsUsageStop (bad_stamp_text stamp.now) result }
 {

@@ -1,4 +1,4 @@
-//! A name that no job of a list has.
+//! The message about a name that no job of a list has.
 
 ghost use Rattle.std.specs.Prelude.{◌≡◌, ◌++◌, ◌<◌, ◌≤◌, ℕ, IfOk, List, OnOk, codes, length};
 ghost use Rattle.rv_choice.specs.UnknownName.{IsNameHint, IsUnknownNameStop, names_from, more_names_text, no_such_job_message, shown_names};
@@ -8,16 +8,15 @@ use rv_command::{Span, Stop, near_job, push_spans, push_text, text_of_spans};
 use rv_expect::Job;
 use std::alloc::{AllocError, Global};
 
-/// Returns the error that no job of the list at `list_path` has this name. It suggests the nearest name or, if none is near, shows the
-/// names of the jobs.
+/// Returns the stop for a name that no job has. Its message suggests the most similar name or, if none is similar enough, lists the names
+/// of the jobs. `list_path` is the path of the list.
 pub fn unknown_name_stop(alloc: Global, list_path: &str, jobs: &[Job], name: &str) -> Stop
     ensures { IsUnknownNameStop list_path.now jobs.now name.now result }
 {
     Stop::rejection(unknown_name_message(alloc, list_path, jobs, name))
 }
 
-// Returns the message that no job of the list at `list_path` has this name, with the nearest name or, if none is near, the names of the
-// jobs.
+// Returns the message that no job has this name, with the most similar name or, if none is similar enough, the names of the jobs.
 fn unknown_name_message(
     alloc: Global,
     list_path: &str,
@@ -32,7 +31,7 @@ fn unknown_name_message(
     Ok(message)
 }
 
-// Returns the beginning of the message that no job of the list at `list_path` has this name.
+// Returns the first part of the message that no job has this name.
 fn no_such_job_message<'a>(
     alloc: Global,
     list_path: &'a str,
@@ -51,7 +50,7 @@ fn no_such_job_message<'a>(
     )
 }
 
-// Appends the name of the job that was probably meant or, if there is none, the names of the jobs.
+// Appends the most similar name of a job or, if none is similar enough, the names of the jobs.
 fn push_name_hint(
     message: &mut Vec<u8>,
     alloc: Global,
@@ -82,10 +81,10 @@ fn push_near_name<'a>(message: &mut Vec<u8>, near: &'a str) -> Result<(), AllocE
     )
 }
 
-// The maximum number of names that are shown.
+// The maximum number of names that are listed.
 const MAX_SHOWN: usize = 20;
 
-// Appends the names of the first 20 jobs, and how many more jobs there are.
+// Appends the names of the first 20 jobs, and the number of further jobs.
 fn push_names(message: &mut Vec<u8>, jobs: &[Job]) -> Result<(), AllocError>
     ensures { OnOk result (message.new.items ≡ message.old.items ++ shown_names jobs.now) }
 {
@@ -95,7 +94,7 @@ fn push_names(message: &mut Vec<u8>, jobs: &[Job]) -> Result<(), AllocError>
     push_more_names(message, jobs.len())
 }
 
-// Appends the names of these jobs, which are the first of `count` names in a message.
+// Appends the names of these jobs, the first of the `count` names of a list.
 fn push_first_names(message: &mut Vec<u8>, jobs: &[Job], count: usize) -> Result<(), AllocError>
     requires { length jobs.now ≤ count }
     ensures { OnOk result (message.new.items ≡ message.old.items ++ names_from 0 count jobs.now) }
@@ -106,7 +105,7 @@ fn push_first_names(message: &mut Vec<u8>, jobs: &[Job], count: usize) -> Result
     Ok(())
 }
 
-// Appends the name at index `index` in a message with `count` names, with the text before it.
+// Appends the name at an index of a list with `count` names, and the text before it.
 fn push_name<'a>(
     message: &mut Vec<u8>,
     index: usize,
@@ -121,7 +120,7 @@ fn push_name<'a>(
     push_text(message, name)
 }
 
-// Returns the text before the name at index `index` in a message with `count` names.
+// Returns the text before the name at an index of a list with `count` names.
 fn text_before_name(index: usize, count: usize) -> &'static str
     requires { index < count }
     ensures { result.now ≡ text_before_name index count }
@@ -133,7 +132,7 @@ fn text_before_name(index: usize, count: usize) -> &'static str
     }
 }
 
-// Appends how many of `count` names are not shown, or nothing if all are shown.
+// Appends how many of `count` names are not listed, or nothing if all are.
 fn push_more_names(message: &mut Vec<u8>, count: usize) -> Result<(), AllocError>
     ensures { OnOk result (message.new.items ≡ message.old.items ++ more_names_text count) }
 {

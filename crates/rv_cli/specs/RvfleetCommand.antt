@@ -1,4 +1,4 @@
--- The command line: the rules by which `clap` parses arguments, and the requests that they make.
+-- The command line of `rvfleet`: the rules by which `clap` parses arguments, and the requests that they make.
 use Rattle.std.specs.Prelude.{◌≡◌, ◌⊎◌, is_some, ℕ, Bool, true, List, [], ◌∷◌, Option, Some}
 use Rattle.std.specs.Prelude.{None, pos, codes, option_map, option_and_then, if◌then◌else◌}
 use Rattle.std.specs.Str.{bytes_eq}
@@ -67,7 +67,7 @@ abbrev pub run_app : App
 run_app =
     with_rule (with_rule (with_rule (new_app (codes "run")) jobs_rule) workers_rule) group_rule
 
--- the command `rvfleet` before its subcommands are added: it requires a subcommand, and lets `clap` add no `help` subcommand
+-- the command `rvfleet` without its subcommands: it requires a subcommand, and `clap` does not add a `help` subcommand
 abbrev pub top_app : App
 top_app = let app = new_app (codes "rvfleet") in
     record app {
@@ -81,55 +81,57 @@ fleet_app =
 
 -- ---- the requests
 
--- a request: `raw` runs a flat image with a budget; `one` runs the image at a path with a budget and the hexadecimal digits of its input,
--- if any; `run` runs the job list at a path with a number of workers and a number of jobs in a chunk
+-- what the arguments request: `raw` runs a flat image with this budget; `one` runs the image at this path with this budget and the
+-- hexadecimal digits of its console input, if any; `run` runs the job list at this path with this number of workers and this number of jobs
+-- claimed at once
 pub data Request : Type 0 where
   raw : ℕ → Request
   one : Text → ℕ → Option Text → Request
   run : Text → ℕ → ℕ → Request
 
--- the value of `--budget` among the matches of `clap`; `None` if it is not given, or not from 1 to `max_budget`
+-- the value of `--budget` in the matches of `clap`, or `None` if it is missing or not from 1 to `max_budget`
 abbrev pub requested_budget : List Row → Option ℕ
 requested_budget rows = number_value (codes "budget") 1 max_budget rows
 
--- the request of the subcommand `raw` with these matches of `clap`; `None` without a valid budget
+-- the request of the subcommand `raw` with these matches of `clap`, or `None` if the budget is missing or invalid
 abbrev pub raw_request : List Row → Option Request
 raw_request rows = option_map raw (requested_budget rows)
 
--- the request of the subcommand `one` with these matches of `clap`; `None` without a path or a valid budget
+-- the request of the subcommand `one` with these matches of `clap`, or `None` if the path or the budget is missing or invalid
 abbrev pub one_request : List Row → Option Request
 one_request rows = option_and_then
     (λ path. option_map (λ budget. one path budget (first_of (codes "input-hex") rows))
     (requested_budget rows)) (first_of (codes "image") rows)
 
--- the request of the subcommand `run` with these matches of `clap`; `None` without a path or with an invalid number
+-- the request of the subcommand `run` with these matches of `clap`, or `None` if the path is missing, or a number is missing or invalid
 abbrev pub run_request : List Row → Option Request
 run_request rows = option_and_then (λ path. option_and_then
     (λ workers. option_map (run path workers) (number_value (codes "group") 1 max_group rows))
     (number_value (codes "workers") 1 max_workers rows)) (first_of (codes "jobs") rows)
 
--- the request of the subcommand `name` with these matches of `clap`; `None` if a required value is missing
+-- the request of the subcommand `name` with these matches of `clap`, or `None` if a value is missing or invalid, or if there is no such
+-- subcommand
 abbrev pub subcommand_request : Text → List Row → Option Request
 subcommand_request name rows = if bytes_eq name (codes "raw") then raw_request rows
     else if bytes_eq name (codes "one") then one_request rows
     else if bytes_eq name (codes "run") then run_request rows
     else None
 
--- the request of the subcommand that `clap` matches in these arguments; `None` if there is none
+-- the request of the subcommand that `clap` matches in these arguments, or `None` if there is none
 abbrev pub request_of : List Text → Option Request
 request_of args =
     option_and_then (λ found. subcommand_request found.0 found.1) (subcommand_of fleet_app args)
 
--- whether the command accepts the arguments
+-- whether `clap` accepts the arguments
 unfoldable pub are_arguments_accepted : List Text → Bool
 are_arguments_accepted args = takes fleet_app args
 
--- the request, or `None` if the list of errors in the arguments is not empty
+-- the request, or `None` if there is an error in the arguments
 abbrev pub request_unless_errors : Kinds → Option Request → Option Request
 request_unless_errors [] request = request
 request_unless_errors (fault ∷ more) request = None
 
--- the request that the arguments make; `None` if `clap` finds an error in them
+-- the request that the arguments make, or `None` if `clap` finds an error in them
 unfoldable pub request_without_errors : List Text → Option Request
 request_without_errors args = request_unless_errors (fault_of fleet_app args) (request_of args)
 

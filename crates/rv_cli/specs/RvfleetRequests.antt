@@ -1,11 +1,11 @@
--- The request that a value of the program's Rust type represents.
+-- The requests of the code, as contracts see them.
 use Rattle.std.specs.Prelude.{◌≤◌, option_map}
 use Rattle.rv_base.specs.Limits.{max_budget, max_group, max_workers}
 use Rattle.rv_cli.specs.declared.rvfleet.Request.{Request as Value}
 use Rattle.rv_cli.specs.declared.rvfleet.Request.TheVariants.{One, Raw, Run}
 use Rattle.rv_cli.specs.RvfleetCommand.{Request, one, raw, run}
 
--- the request that contracts use for this value of the Rust type
+-- a request, converted from the type of the code to the one that contracts use
 abbrev pub request : Value → Request
 request (Raw budget) = raw budget
 request (One image budget input_hex) =

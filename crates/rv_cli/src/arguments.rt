@@ -1,4 +1,4 @@
-//! Arguments that both command lines have, each with its rule.
+//! Arguments that both command lines have, with the rules by which they are parsed.
 
 ghost use Rattle.std.specs.Prelude.{◌≡◌, false};
 ghost use Rattle.clap.specs.Words.{rule_of};
@@ -8,7 +8,7 @@ ghost use Rattle.rv_cli.specs.RvfleetCommand.{group_rule};
 use clap::{Arg, value_parser};
 use std::alloc::Global;
 
-/// Returns the required positional argument `name`; the help shows it with this value name and description.
+/// Returns the required positional argument `name`. In the help it has the value name `value` and the description `help`.
 pub fn positional_argument<'a>(
     alloc: Global,
     name: &'a str,
@@ -16,7 +16,7 @@ pub fn positional_argument<'a>(
     help: &'a str,
 ) -> Arg<'a>
     ensures rule { (rule_of result ≡ positional_rule name.entry.now) × (result.global ≡ false) }
-    // The help shows it with this value name and this text.
+    // The help shows it with this value name and description.
     ensures shown { IsShownAs value.entry help.entry result }
 {
     Arg::new(alloc, name)
@@ -25,10 +25,10 @@ pub fn positional_argument<'a>(
         .help(help)
 }
 
-/// Returns the option `--name` with one value; the help shows it with this value name and description.
+/// Returns the option `--name`, which has one value. In the help it has the value name `value` and the description `help`.
 pub fn option_argument<'a>(alloc: Global, name: &'a str, value: &'a str, help: &'a str) -> Arg<'a>
     ensures rule { (rule_of result ≡ option_rule name.entry.now) × (result.global ≡ false) }
-    // The help shows it with this value name and this text.
+    // The help shows it with this value name and description.
     ensures shown { IsShownAs value.entry help.entry result }
 {
     Arg::new(alloc, name)
@@ -37,7 +37,7 @@ pub fn option_argument<'a>(alloc: Global, name: &'a str, value: &'a str, help: &
         .help(help)
 }
 
-/// Returns the option `--group` for the number of jobs in a chunk, which a thread takes at once.
+/// Returns the option `--group N`, the number of consecutive jobs that a thread claims at once.
 pub fn group_argument<'a>(alloc: Global) -> Arg<'a>
     ensures { (rule_of result ≡ group_rule) × (result.global ≡ false) }
 {

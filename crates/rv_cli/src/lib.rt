@@ -1,8 +1,8 @@
-//! The command line of `rvfleet`, parsed by `clap`, and what the command lines of both programs share.
+//! The command line of `rvfleet`, which `clap` parses, and what the command lines of both programs share.
 //!
-//! [`rvfleet::read_words`] parses the arguments of a process. Its error is `clap`'s own; a request for help is an error, too.
-//! [`arguments`], [`command_builder`] and [`values`] build a command and read what `clap` matched: the command line of `rvtest` is built on
-//! them.
+//! [`rvfleet::read_words`] parses the arguments of a process. Its error is one of `clap`, which reports a request for help as an error,
+//! too. [`arguments`], [`command_builder`] and [`values`] build a command and read the values that `clap` found; the command line of
+//! `rvtest` is built on them.
 #![tactic(auto)]
 
 pub mod arguments;
@@ -10,5 +10,5 @@ pub mod command_builder;
 pub mod rvfleet;
 pub mod values;
 
-// From the crates below: what this interface names, and what its callers need with it.
+// Re-exports from lower crates: the types in this interface, and what its callers need with them.
 pub use rv_base::{is_name, limits};

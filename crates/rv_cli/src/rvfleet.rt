@@ -1,4 +1,4 @@
-//! The arguments of `rvfleet`: its command line, and the requests that they make.
+//! The command line of `rvfleet`, and the requests that its arguments make.
 
 ghost use Rattle.std.specs.Prelude.{◌≡◌, ◌≤◌, IfOk, IfErr, IfSome, is_some, true, false, map};
 ghost use Rattle.std.specs.Prelude.{option_map};
@@ -20,20 +20,20 @@ use rv_base::limits::{MAX_BUDGET, MAX_GROUP, MAX_WORKERS};
 use std::alloc::{AllocError, Global};
 use std::convert::AsStr;
 
-/// A request that arguments make.
+/// What the arguments request.
 #[derive(Clone, Copy)]
 pub enum Request<'a> {
     /// Run the flat image on the input, with a budget of 1 to 1,000,000,000 steps.
     Raw {
         budget: u32,
     },
-    /// Run the ELF image at a path, with a budget of 1 to 1,000,000,000 steps, and the console's input as hexadecimal digits.
+    /// Run the ELF image at a path, with a budget of 1 to 1,000,000,000 steps and a console input, if any, in hexadecimal digits.
     One {
         image: &'a str,
         budget: u32,
         input_hex: Option<&'a str>,
     },
-    /// Run the job list at a path, with 1 to 64 workers and chunks of 1 to 4,096 jobs.
+    /// Run the job list at a path, with 1 to 64 workers that claim 1 to 4,096 jobs at once.
     Run {
         jobs: &'a str,
         workers: u32,
@@ -41,21 +41,21 @@ pub enum Request<'a> {
     },
 }
 
-/// Parses the arguments, the first of which is the program's name, and returns their request; `None` if they make none, which is never the
-/// case for arguments that `clap` accepts. An error is an error of `clap`; a request for help is one, of the kind `DisplayHelp`.
+/// Parses the arguments, of which the first is the program's name, and returns their request. `None` is never returned for arguments that
+/// `clap` accepts. The error is one of `clap`; for a request for help, its kind is `DisplayHelp`.
 pub fn read_words<'a, T: AsStr>(alloc: Global, args: &'a [T]) -> Result<Option<Request<'a>>, Error>
     // The result is the request that the arguments make.
     ensures value { IfOk result
         (λ parsed. option_map request parsed ≡ request_of (map T.text args.entry.now)) }
     // Each number is within the range of its argument.
     ensures within { IfOk result (λ parsed. IfSome parsed IsRequestInRange) }
-    // Arguments that the command accepts make a request.
+    // Arguments that `clap` accepts make a request.
     ensures asked { are_arguments_accepted (map T.text args.entry.now) ≡ true
         → IfOk result (λ parsed. is_some parsed ≡ true) }
-    // Arguments that the command accepts fail only if memory runs out.
+    // For arguments that `clap` accepts, the only possible error is that memory ran out.
     ensures taken { IfErr result (λ error. are_arguments_accepted (map T.text args.entry.now) ≡ true
         → kind_of error ≡ ErrorKind.OutOfMemory) }
-    // Arguments fail because of an error that is found in them or because memory runs out; otherwise they have no error.
+    // Any other error is one that the arguments have.
     ensures kinds { FailsBy (fault_of fleet_app (map T.text args.entry.now)) result }
 {
     let command = fleet_command(alloc)?;
@@ -128,7 +128,7 @@ fn run_command<'a>(alloc: Global) -> Built<'a>
     with_argument(command, group_argument(alloc))
 }
 
-// Returns the option `--budget`, which is required.
+// Returns the required option `--budget`.
 fn budget_argument<'a>(alloc: Global) -> Arg<'a>
     ensures { (rule_of result ≡ budget_rule) × (result.global ≡ false) }
 {
@@ -147,7 +147,8 @@ fn workers_argument<'a>(alloc: Global) -> Arg<'a>
         .default_value("1")
 }
 
-// Returns the request of the subcommand `name` with these values; `None` if a required value is missing.
+// Returns the request of the subcommand `name` with these values, or `None` if a value is missing or invalid, or if there is no such
+// subcommand.
 fn subcommand_request<'a>(name: &str, values: &ArgMatches<'a>) -> Option<Request<'a>>
     ensures value { option_map request result
         ≡ subcommand_request name.now (rows_of (found_of values.now)) }
@@ -164,7 +165,7 @@ fn subcommand_request<'a>(name: &str, values: &ArgMatches<'a>) -> Option<Request
     }
 }
 
-// Returns the request of the subcommand `raw` with these values; `None` without a valid budget.
+// Returns the request of the subcommand `raw` with these values, or `None` if the budget is missing or invalid.
 fn raw_request<'a>(values: &ArgMatches<'a>) -> Option<Request<'a>>
     ensures value { option_map request result ≡ raw_request (rows_of (found_of values.now)) }
     ensures within { IfSome result IsRequestInRange }
@@ -173,7 +174,7 @@ fn raw_request<'a>(values: &ArgMatches<'a>) -> Option<Request<'a>>
     Some(Request::Raw { budget })
 }
 
-// Returns the request of the subcommand `one` with these values; `None` without a path or a valid budget.
+// Returns the request of the subcommand `one` with these values, or `None` if the path or the budget is missing or invalid.
 fn one_request<'a>(values: &ArgMatches<'a>) -> Option<Request<'a>>
     ensures value { option_map request result ≡ one_request (rows_of (found_of values.now)) }
     ensures within { IfSome result IsRequestInRange }
@@ -188,7 +189,7 @@ fn one_request<'a>(values: &ArgMatches<'a>) -> Option<Request<'a>>
     })
 }
 
-// Returns the request of the subcommand `run` with these values; `None` without a path or with an invalid number.
+// Returns the request of the subcommand `run` with these values, or `None` if the path is missing, or a number is missing or invalid.
 fn run_request<'a>(values: &ArgMatches<'a>) -> Option<Request<'a>>
     ensures value { option_map request result ≡ run_request (rows_of (found_of values.now)) }
     ensures within { IfSome result IsRequestInRange }
@@ -203,7 +204,7 @@ fn run_request<'a>(values: &ArgMatches<'a>) -> Option<Request<'a>>
     })
 }
 
-// Returns the value of `--budget`; `None` if it is not given, or not from 1 to 1,000,000,000.
+// Returns the value of `--budget`, or `None` if it is missing or not from 1 to 1,000,000,000.
 fn requested_budget(values: &ArgMatches<'_>) -> Option<u32>
     ensures value { result ≡ requested_budget (rows_of (found_of values.now)) }
     ensures within { IfSome result (λ number. (1 ≤ number) × (number ≤ MAX_BUDGET)) }

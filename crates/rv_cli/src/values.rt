@@ -7,8 +7,8 @@ ghost use Rattle.rv_cli.specs.Values.{argument_values, is_flag_set, is_option_gi
 use clap::ArgMatches;
 use std::alloc::{AllocError, Global};
 
-/// Returns the number that is given for the argument `id`; `None` if none is given, or it is not from `low` to `high`. `clap` has already
-/// checked the range; here the caller can rely on it.
+/// Returns the number that was given for the argument `id`, or `None` if there is none or it is not from `low` to `high`. `clap` has
+/// checked the range before; this check makes it known to the caller.
 pub fn number_value(values: &ArgMatches<'_>, id: &str, low: u32, high: u32) -> Option<u32>
     ensures value { result ≡ number_value id.now low high (rows_of (found_of values.now)) }
     ensures within { IfSome result (λ number. (low ≤ number) × (number ≤ high)) }
@@ -21,14 +21,14 @@ pub fn number_value(values: &ArgMatches<'_>, id: &str, low: u32, high: u32) -> O
     }
 }
 
-// Returns the number that is given for the argument `id`; `None` if none is given.
+// Returns the number that was given for the argument `id`, or `None` if there is none.
 fn parsed_number_value(values: &ArgMatches<'_>, id: &str) -> Option<u32>
     ensures { result ≡ parsed_number_value id.now (rows_of (found_of values.now)) }
 {
     values.get_one::<u32>(id)
 }
 
-/// Returns the first value that is given for the argument `id`, as the user wrote it; `None` if none is given.
+/// Returns the first value that was given for the argument `id`, as it was written, or `None` if there is none.
 pub fn text_value<'a>(values: &ArgMatches<'a>, id: &str) -> Option<&'a str>
     ensures { option_map (λ text. text.now) result
         ≡ first_of id.now (rows_of (found_of values.now)) }
@@ -36,7 +36,7 @@ pub fn text_value<'a>(values: &ArgMatches<'a>, id: &str) -> Option<&'a str>
     values.get_str(id)
 }
 
-/// Whether the option `id`, which has no value, is given.
+/// Whether the option `id`, which has no value, was given.
 pub fn is_flag_set(values: &ArgMatches<'_>, id: &str) -> bool
     ensures { result ≡ is_flag_set id.now (rows_of (found_of values.now)) }
 {
@@ -46,14 +46,14 @@ pub fn is_flag_set(values: &ArgMatches<'_>, id: &str) -> bool
     }
 }
 
-/// Whether the option `id`, which has a value, is given.
+/// Whether the option `id`, which has a value, was given.
 pub fn is_option_given(values: &ArgMatches<'_>, id: &str) -> bool
     ensures { result ≡ is_option_given id.now (rows_of (found_of values.now)) }
 {
     text_value(values, id).is_some()
 }
 
-/// Returns all values that are given for the argument `id`, in order; empty if none is given.
+/// Returns all values that were given for the argument `id`, in order.
 pub fn argument_values<'a>(
     alloc: Global,
     values: &ArgMatches<'a>,

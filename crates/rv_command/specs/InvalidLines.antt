@@ -1,5 +1,5 @@
--- What is reported about a text that should be a report, or a shard's report, and has a line that is invalid there: the line and what was
--- expected instead; or that the text is a job list.
+-- Messages about a file that should be a report, of a list or of a shard: it is a job list, or it has an invalid line, which is shown with
+-- what was expected instead.
 use Rattle.std.specs.Prelude.{◌-◌, ◌+◌, ◌==◌, ◌||◌, ◌++◌, ℕ, zero, suc, Bool, true, false, List, [], ◌∷◌, Option, Some, None, codes, drop}
 use Rattle.std.specs.Prelude.{if◌then◌else◌, length, nat_eq, nat_lt, position, take}
 use Rattle.std.specs.Fmt.{decimal}
@@ -15,12 +15,12 @@ use Rattle.rv_command.specs.declared.invalid_line.ResultKind.TheVariants as resu
 
 -- ---- the lines of a text
 
--- the text before this offset, or the whole text if there is no offset
+-- the text up to this offset, or the whole text if no offset is given
 abbrev pub text_up_to : Option ℕ → List ℕ → List ℕ
 text_up_to (Some offset) text = take offset text
 text_up_to None text = text
 
--- the text after the byte at this offset, or nothing if there is no offset
+-- the text after the byte at this offset, or an empty text if no offset is given
 abbrev pub text_after : Option ℕ → List ℕ → List ℕ
 text_after (Some offset) text = drop (offset + 1) text
 text_after None text = []
@@ -48,18 +48,18 @@ line_before text number = if nat_lt number 2 then [] else numbered_line text (nu
 
 -- ---- lists
 
--- whether an error can only be found in a TOML document with jobs
+-- whether only a TOML document with jobs can have this error
 abbrev pub is_error_of_jobs : What → Bool
 is_error_of_jobs what.NotToml = false
 is_error_of_jobs what.NoJobs = false
 is_error_of_jobs _ = true
 
--- whether the errors of a text show that it is a TOML document with jobs, valid or not
+-- whether a text with these errors is a job list: a TOML document with jobs
 abbrev pub are_job_list_errors : List JobError → Bool
 are_job_list_errors [] = true
 are_job_list_errors (error ∷ errors) = is_error_of_jobs error.what
 
--- whether a text is a TOML document with jobs, valid or not
+-- whether a text is a job list, valid or not: a TOML document with jobs
 abbrev pub is_job_list : List ℕ → Bool
 is_job_list text = are_job_list_errors (list_faults text)
 
@@ -69,7 +69,7 @@ is_job_list text = are_job_list_errors (list_faults text)
 abbrev line_starts_with : List ℕ → List ℕ → Bool
 line_starts_with line prefix = starts_with nat_eq line prefix
 
--- what is expected in a report after this line, or at the beginning of the report if the line is empty
+-- what must follow this line in a report; if the line is empty, what a report must begin with
 unfoldable pub expected_after : List ℕ → List ℕ
 expected_after line =
     if line_starts_with line (codes "job ") then codes "\"end\" and how the run ended"
@@ -91,18 +91,19 @@ abbrev pub kind_text : ResultKind → List ℕ
 kind_text result_kind.Report = codes "a report"
 kind_text result_kind.Part = codes "the report of a shard"
 
--- the message that the line with this number is invalid in the file at the path: it shows the line, and what was expected instead
+-- the message that a line of the file at the path is invalid, which shows the line and what was expected instead
 abbrev pub line_message : ResultKind → List ℕ → List ℕ → ℕ → List ℕ
 line_message kind path text number =
     codes "rvtest: " ++ printable_text path ++ codes ":" ++ decimal number ++ codes ": invalid " ++ kind_noun kind ++ codes " line \""
     ++ printable_value (numbered_line text number) ++ codes "\": expected " ++ expected_after (line_before text number) ++ codes "\n"
 
--- the message that the text at the path is a job list, not the expected kind
+-- the message that the file at the path is a job list and not of the expected kind
 abbrev pub job_list_message : ResultKind → List ℕ → List ℕ
 job_list_message kind path =
     codes "rvtest: " ++ printable_text path ++ codes ": this is a job list, not " ++ kind_text kind ++ codes "\n"
 
--- the message that the text at a path is not of the expected kind: it is a job list, or its line with this number is invalid
+-- the message that the file at a path is not of the expected kind: that it is a job list, if it is one, or else that the line with this
+-- number is invalid
 abbrev pub invalid_line_message : ResultKind → List ℕ → List ℕ → ℕ → List ℕ
 invalid_line_message kind path text number =
     if is_job_list text then job_list_message kind path else line_message kind path text number

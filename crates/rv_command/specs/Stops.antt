@@ -1,4 +1,4 @@
--- Why commands stop early: the exit statuses and the messages.
+-- Why commands stop early, with the exit statuses and the messages.
 use Rattle.std.specs.Prelude.{◌≡◌, ◌⊎◌, ◌<◌, ◌+◌, ℕ, Bool, true, false, List, [], ◌∷◌, IfSome, IsSomeAnd, Option, None, Result, Ok, Err, Vec, codes, length, string_bytes}
 use Rattle.std.specs.declared.alloc.AllocError.{AllocError}
 use Rattle.std.specs.declared.alloc.Global.{Global}
@@ -43,22 +43,23 @@ stop_status stops.WriteFailed = 3
 abbrev pub broken_pipe_status : ℕ
 broken_pipe_status = 128 + 13
 
--- the exit status for a stop; for a failed write it is `broken_pipe_status`, if the Bool says that the reader of the results closed them
+-- the exit status for a stop; for a failed write it is `broken_pipe_status` if the Bool says that the reader of standard output has closed
+-- it
 abbrev pub end_status : Bool → Stop → ℕ
 end_status true stops.WriteFailed = broken_pipe_status
 end_status _ stop = stop_status stop
 
--- the stop with this message, which is of this kind, or out of memory if the message could not be made
+-- the stop with this message, of this kind; out of memory if the message could not be made
 abbrev pub stop_with_message : MessageKind → Result (Vec ℕ Global) AllocError → Stop
 stop_with_message kind (Ok text) = stops.Message kind text
 stop_with_message kind (Err error) = stops.OutOfMemory
 
--- the stop is out of memory, or it has this exit status and this message
+-- the stop has this exit status and this message, or memory ran out
 abbrev pub IsStop : ℕ → List ℕ → Stop → Type 0
 IsStop status text stop =
     (stop ≡ stops.OutOfMemory) ⊎ ((stop_status stop ≡ status) × (stop_message stop ≡ text))
 
--- the stop is out of memory, or it rejects the request with any message
+-- the stop rejects the request, with any message, or memory ran out
 abbrev pub IsRejection : Stop → Type 0
 IsRejection stop = (stop ≡ stops.OutOfMemory) ⊎ (stop_status stop ≡ 2)
 
@@ -66,30 +67,31 @@ IsRejection stop = (stop ≡ stops.OutOfMemory) ⊎ (stop_status stop ≡ 2)
 abbrev pub IsRejectedWith : List ℕ → Stop → Type 0
 IsRejectedWith text stop = (stop_status stop ≡ 2) × (stop_message stop ≡ text)
 
--- the stop rejects the arguments with the text of their error, or both are out of memory
+-- the stop rejects the arguments with the text of this error; if the error is that memory ran out, so does the stop say
 abbrev pub IsArgsRejection : ArgsError → Stop → Type 0
 IsArgsRejection error.OutOfMemory stop = stop ≡ stops.OutOfMemory
 IsArgsRejection (error.Message fault text) stop = IsRejectedWith (string_bytes text) stop
 
--- the stop is out of memory, or it rejects the arguments with this message and the usage of a command
+-- the stop rejects the arguments with this message and the usage of a command, or memory ran out
 abbrev pub IsUsageStop : List ℕ → Stop → Type 0
 IsUsageStop message stop = (stop ≡ stops.OutOfMemory) ⊎ ((stop_status stop ≡ 2) × IsUsageText message (stop_message stop))
 
 -- ---- files
 
--- if the contents of files are known, there is no file at the path
+-- there is no file at the path; true if the contents of files are not known
 abbrev pub IsMissingAt : Option FileContents → List ℕ → Type 0
 IsMissingAt contents path = IfSome contents (λ files. files path ≡ None)
 
--- if the contents of files are known, the file at the path has more than `max_bytes` bytes
+-- the file at the path has more than `max_bytes` bytes; true if the contents of files are not known
 abbrev pub IsTooLongAt : Option FileContents → List ℕ → ℕ → Type 0
 IsTooLongAt contents path max_bytes = IfSome contents (λ files. IsSomeAnd (files path) (λ bytes. max_bytes < length bytes))
 
--- memory ran out, or the stop reports the system's reason why the file at the path could not be read or written
+-- the stop reports why the system could not read or write the file at the path, or memory ran out
 abbrev pub IsSystemStop : List ℕ → ErrorKind → Stop → Type 0
 IsSystemStop path reason stop = IsStop 3 (path_message path (io_error_text reason)) stop
 
--- why a command stopped: memory ran out, or the file at the path could not be read; in that case the known contents have no file there
+-- why a command stopped: memory ran out, or the file at the path could not be read, which is possible only if the known contents have no
+-- file there
 abbrev pub IsUnreadStop : Option FileContents → List ℕ → Stop → Type 0
 IsUnreadStop contents path stop = (stop ≡ stops.OutOfMemory)
     ⊎ (IsMissingAt contents path × ((reason : ErrorKind) × IsSystemStop path reason stop))
@@ -119,7 +121,7 @@ IsListUnreadStop contents path stop = IsUnreadStop contents path stop
     ⊎ (IsTooLongAt contents path max_file_size
     × IsStop 3 (path_message path (codes "the file is larger than 16777216 bytes")) stop)
 
--- memory ran out, or the text at the path is an invalid list, and the stop reports its first error
+-- the text at the path is an invalid list, and the stop reports its first error, or memory ran out
 abbrev pub IsListFaultStop : List ℕ → List ℕ → Stop → Type 0
 IsListFaultStop path text stop = (stop ≡ stops.OutOfMemory)
     ⊎ ((error : JobError) × (job_list_of text ≡ Err error)
@@ -127,48 +129,48 @@ IsListFaultStop path text stop = (stop ≡ stops.OutOfMemory)
 
 -- ---- reports
 
--- memory ran out, or the stop reports that the report at the path is truncated
+-- the stop reports that the report at the path is truncated, or memory ran out
 abbrev pub IsTruncatedStop : List ℕ → Stop → Type 0
 IsTruncatedStop path stop = IsStop 2 (path_message path (codes "the report is truncated")) stop
 
--- memory ran out, or the stop reports that the line with this number is invalid in a report, or that the file is a job list
+-- the stop reports that the line with this number is invalid in a report, or that the file is a job list, or memory ran out
 abbrev pub IsLineStop : List ℕ → List ℕ → ℕ → Stop → Type 0
 IsLineStop path bytes line stop = IsStop 2 (invalid_line_message result_kind.Report path bytes line) stop
 
--- the stop reports the first error of a text that is not a report: its first invalid line; or that it is truncated, if its complete lines
--- begin some report
+-- the stop says why a text is not a report: it reports the first invalid line, or that the text is truncated, if its complete lines are the
+-- start of some report
 abbrev pub IsReportFaultReported : List ℕ → List ℕ → Stop → Type 0
 IsReportFaultReported path bytes stop =
     ((line : ℕ) × IsFirstInvalidLine line bytes × IsLineStop path bytes line stop)
     ⊎ (IsReportPrefix (first_lines (line_feed_count bytes) bytes) × IsTruncatedStop path stop)
 
--- memory ran out, or the stop reports the first error of the bytes, which were read as a report from the path
+-- the stop says why the bytes at the path are not a report, or memory ran out
 pub record IsReportFaultStop (path bytes : List ℕ) (stop : Stop) : Type 0 where
   pub reported : (stop ≡ stops.OutOfMemory) ⊎ IsReportFaultReported path bytes stop
-  -- a prefix of a report is reported as truncated
+  -- the start of a report is reported as truncated
   pub report_prefix : IsReportPrefix bytes → IsTruncatedStop path stop
-  -- a complete report has no error
+  -- for a complete report, the only possible reason is that memory ran out
   pub valid_report : (report : SavedReport) → IsReportText bytes report → stop ≡ stops.OutOfMemory
 
--- why a command stopped: the report at the path could not be read, or it has an error
+-- why a command stopped: the report at the path could not be read, or it is invalid
 abbrev pub IsReportReadStop : Option FileContents → List ℕ → Stop → Type 0
 IsReportReadStop contents path stop = IsResultUnreadStop contents path stop
     ⊎ ((bytes : List ℕ) × IsTextAt contents path bytes × IsReportFaultStop path bytes stop)
 
--- ---- reports that may be truncated
+-- ---- reports that can be truncated
 
--- memory ran out, or the stop reports the first invalid line of the bytes; a prefix of a report has no invalid line
+-- the stop reports the first invalid line of the bytes, or memory ran out; the start of a report has no invalid line
 pub record IsPartialFaultStop (path bytes : List ℕ) (stop : Stop) : Type 0 where
   pub reported : (stop ≡ stops.OutOfMemory)
       ⊎ ((line : ℕ) × IsFirstInvalidLine line bytes × IsLineStop path bytes line stop)
   pub report_prefix : IsReportPrefix bytes → stop ≡ stops.OutOfMemory
 
--- why a command stopped: the bytes are not a report, nor a truncated report if the Bool allows that
+-- why a command stopped: the bytes are not a report, nor the start of one if the Bool allows a truncated report
 abbrev pub IsRequestedFaultStop : Bool → List ℕ → List ℕ → Stop → Type 0
 IsRequestedFaultStop false path bytes stop = IsReportFaultStop path bytes stop
 IsRequestedFaultStop true path bytes stop = IsPartialFaultStop path bytes stop
 
--- why a command stopped: the report at the path could not be read, or it has an error; `partial` says whether it may be truncated
+-- why a command stopped: the report at the path could not be read, or it is invalid; `partial` says whether it can be truncated
 abbrev pub IsRequestedUnreadStop : Option FileContents → Bool → List ℕ → Stop → Type 0
 IsRequestedUnreadStop contents partial path stop = IsResultUnreadStop contents path stop
     ⊎ ((bytes : List ℕ) × IsTextAt contents path bytes × IsRequestedFaultStop partial path bytes stop)

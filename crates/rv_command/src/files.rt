@@ -34,7 +34,7 @@ pub(crate) fn read_file_up_to<D: Inputs>(
 /// The maximum number of bytes in a report or a table of counts.
 const MAX_RESULT_BYTES: usize = 0x4000_0000;
 
-/// Reads the file of a report or a table of counts. Returns an error if it is too long.
+/// Reads a report or a table of counts. It is an error if the file has more than 1,073,741,824 bytes.
 pub fn read_result_file<D: Inputs>(inputs: &D, alloc: Global, path: &str) -> Result<Vec<u8>, Stop>
     ensures read { IfOk result (λ bytes. IsTextAt (D.contents inputs.now) path.now bytes.items) }
     ensures at_most_max { IfOk result (λ bytes. length bytes.items ≤ max_result_bytes) }
@@ -49,22 +49,23 @@ pub fn read_result_file<D: Inputs>(inputs: &D, alloc: Global, path: &str) -> Res
     }
 }
 
-// More bytes than memory can hold.
+// A limit that no file in memory can reach.
 const UNLIMITED: usize = usize::MAX - 1;
 
-/// Reads a file that this command has written, whatever its size.
+/// Reads a file that this command has written, of any size.
 pub fn read_file<D: Inputs>(inputs: &D, alloc: Global, path: &str) -> Result<Vec<u8>, Stop>
     ensures read { IfOk result (λ bytes. IsTextAt (D.contents inputs.now) path.now bytes.items) }
     ensures stopped { IfErr result (IsUnreadStop (D.contents inputs.now) path.now) }
 {
     match read_file_up_to(inputs, alloc, path, UNLIMITED)? {
         Some(bytes) => Ok(bytes),
-        // Out of memory: the file has more bytes than there are addresses.
+        // The file has more bytes than there are addresses.
         None => Err(Stop::OutOfMemory),
     }
 }
 
-/// Returns the stop for an error in opening or writing the file at the path.
+/// Returns the stop for an error in opening or writing the file at the path. If another output of the command is the same file, the
+/// arguments are rejected.
 pub fn file_error_stop(alloc: Global, path: &str, error: FileError) -> Stop
     ensures { IsFileErrorStop path.now error result }
 {
@@ -78,7 +79,7 @@ pub fn file_error_stop(alloc: Global, path: &str, error: FileError) -> Stop
     }
 }
 
-// Returns the error that the file at the path cannot be read or written, with the reason of the system.
+// Returns the stop that reports why the system could not read or write the file at the path.
 fn io_error_stop(alloc: Global, path: &str, reason: ErrorKind) -> Stop
     ensures { IsSystemStop path.now reason result }
 {

@@ -1,4 +1,4 @@
-//! A text that should be a report, or a shard's report, and has a line that is invalid there.
+//! Messages about a file that should be a report, of a list or of a shard, and has an invalid line.
 
 ghost use Rattle.std.specs.Prelude.{◌≡◌, ◌<◌, IfOk, IfSome, length, position};
 ghost use Rattle.rv_list_errors.specs.LinesAndColumns.{is_line_feed};
@@ -10,17 +10,17 @@ use rv_list_errors::{Span, text_of_spans};
 use rv_rows::{JobError, What, read_faults};
 use std::alloc::{AllocError, Global};
 
-/// What a file with results should be.
+/// What a file was expected to be.
 #[derive(Clone, Copy)]
 pub enum ResultKind {
     /// A report, of a whole list or of a shard.
     Report,
-    /// The report of a shard.
+    /// The report of a shard, which has a last line `part`.
     Part,
 }
 
-/// Returns the message that the text at a path is not of the expected kind: it is a job list, or its line with this number is invalid,
-/// which is shown with what was expected instead.
+/// Returns the message that the file at a path is not of the expected kind. It says that the file is a job list, if it is one, or else
+/// shows the invalid line with this number and what was expected instead.
 pub fn invalid_line_message<'a>(
     alloc: Global,
     kind: ResultKind,
@@ -37,7 +37,7 @@ pub fn invalid_line_message<'a>(
     }
 }
 
-// Returns the message that the text at the path is a job list, not the expected kind.
+// Returns the message that the file at the path is a job list and not of the expected kind.
 fn job_list_message<'a>(
     alloc: Global,
     kind: ResultKind,
@@ -57,7 +57,7 @@ fn job_list_message<'a>(
     )
 }
 
-// Returns the message that the line with this number is invalid in the file at the path: it shows the line, and what was expected instead.
+// Returns the message that a line of the file at the path is invalid. It shows the line and what was expected instead.
 fn line_message<'a>(
     alloc: Global,
     kind: ResultKind,
@@ -105,7 +105,7 @@ fn kind_text(kind: ResultKind) -> &'static str
     }
 }
 
-// Whether a text is a TOML document with jobs, valid or not.
+// Whether a text is a job list, valid or not: a TOML document with jobs.
 fn is_job_list(alloc: Global, text: &[u8]) -> Result<bool, AllocError>
     ensures { IfOk result (λ is_list. is_list ≡ is_job_list text.now) }
 {
@@ -113,7 +113,7 @@ fn is_job_list(alloc: Global, text: &[u8]) -> Result<bool, AllocError>
     Ok(are_job_list_errors(errors.as_slice()))
 }
 
-// Whether the errors of a text show that it is a TOML document with jobs, valid or not.
+// Whether a text with these errors is a job list: a TOML document with jobs.
 fn are_job_list_errors(errors: &[JobError]) -> bool
     ensures { result ≡ are_job_list_errors errors.now }
 {
@@ -181,7 +181,7 @@ fn line_feed_offset(text: &[u8]) -> Option<usize>
     text.iter().position(|byte| *byte == b'\n')
 }
 
-// Returns what is expected in a report after this line, or at the beginning of the report if the line is empty.
+// Returns what must follow this line in a report; if the line is empty, what a report must begin with.
 #[tactic(auto, unfolding(crate::specs::InvalidLines::expected_after))]
 fn expected_after(line: &[u8]) -> &'static str
     ensures { result.now ≡ expected_after line.now }

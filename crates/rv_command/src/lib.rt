@@ -1,6 +1,6 @@
-//! What the commands of `rvtest` share: their statuses, why they stop early, and the lists and reports that they read.
+//! What the commands of `rvtest` share: their exit statuses, the reasons why they stop early, and reading lists and reports.
 //!
-//! A [`Stop`] says why a command stopped before its work was done; [`write_stop_message`] reports it and returns the status, 2 or 3.
+//! A [`Stop`] says why a command stopped before its work was done; [`write_stop_message`] reports it and returns the exit status, 2 or 3.
 #![tactic(auto)]
 
 mod files;
@@ -26,7 +26,7 @@ pub use saved_report::{parse_report, read_report_file};
 pub use status::{BROKEN_PIPE, DONE, FAILED, REJECTED, SOME_FAIL};
 pub use stop::{MessageKind, Stop};
 
-// From the crates below: what this interface names, and what its callers need with it.
+// Re-exports from lower crates: the types in this interface, and what its callers need with them.
 pub use rv_files::{Inputs, Text, is_name, limits};
 pub use rv_list_errors::{Span, near_job, push_spans, push_text, text_of_spans};
 pub use rvtest_cli::{ChoosingCommand, RunArgs, usage_error};

@@ -1,4 +1,4 @@
-//! The job list that a command is given.
+//! Reading the job list that is named in the arguments.
 
 ghost use Rattle.std.specs.Prelude.{◌≡◌, ◌≤◌, [], Err, IfErr, IfOk, Ok, length};
 ghost use Rattle.rv_files.specs.Limits.{max_file_size};
@@ -18,7 +18,7 @@ use rv_list_errors::{push_all_faults, push_faults};
 use rv_rows::{JobError, JobList, What, read_jobs};
 use std::alloc::{AllocError, Global};
 
-/// Reads the text of a job list or of a file of known failures. Returns an error if it is too long.
+/// Reads a job list or a file of known failures. It is an error if the file has more than 16,777,216 bytes.
 pub fn read_list_text<D: Inputs>(inputs: &D, alloc: Global, path: &str) -> Result<Vec<u8>, Stop>
     ensures read { IfOk result (λ text. IsTextAt (D.contents inputs.now) path.now text.items) }
     ensures at_most_max { IfOk result (λ text. length text.items ≤ max_file_size) }
@@ -33,7 +33,7 @@ pub fn read_list_text<D: Inputs>(inputs: &D, alloc: Global, path: &str) -> Resul
     }
 }
 
-/// Parses the text of a list. The error reports the first mistake in the list.
+/// Parses the text of a list. The error reports the first mistake in the text.
 pub fn parse_list(alloc: Global, path: &str, text: &[u8]) -> Result<JobList, Stop>
     ensures jobs { IfOk result (λ jobs. job_list_of text.now ≡ Ok jobs) }
     ensures stopped { IfErr result (IsListFaultStop path.now text.now) }
@@ -44,7 +44,7 @@ pub fn parse_list(alloc: Global, path: &str, text: &[u8]) -> Result<JobList, Sto
     }
 }
 
-// Returns the stop for an error of a list: out of memory, or the line that reports the error.
+// Returns the stop for an invalid list: out of memory, or the line that reports the error.
 fn list_fault_stop(alloc: Global, path: &str, text: &[u8], error: JobError) -> Stop
     requires { (error.what ≡ What.OutOfMemory → ⊥) → job_list_of text.now ≡ Err error }
     ensures { IsListFaultStop path.now text.now result }
@@ -55,7 +55,7 @@ fn list_fault_stop(alloc: Global, path: &str, text: &[u8], error: JobError) -> S
     }
 }
 
-/// Returns a line for each of these errors of the list with this path and text, in order.
+/// Returns the lines that report these errors of a list, one for each, in order. `path` and `text` are those of the list.
 pub fn list_faults_text(
     alloc: Global,
     path: &str,
@@ -71,7 +71,7 @@ pub fn list_faults_text(
     Ok(lines)
 }
 
-/// Returns the lines that report all errors of a list. `faults` has the first error of each invalid job.
+/// Returns the lines that report all errors of a list. `faults` has only the first error of each job; the jobs are searched for the others.
 pub fn all_faults_text(
     alloc: Global,
     path: &str,

@@ -1,4 +1,4 @@
-//! The messages on standard error, and the statuses.
+//! Messages on standard error, and the exit statuses that belong to them.
 
 ghost use Rattle.std.specs.Prelude.{◌≡◌, ◌≤◌, ◌++◌, OnErr, OnOk, IfErr, IfOk, false};
 ghost use Rattle.std.specs.Io.KnownBytes.{Appends, Keeps};
@@ -13,7 +13,7 @@ use rv_files::{Sink, put_all};
 use rv_list_errors::{Span, text_of_spans};
 use std::alloc::{AllocError, Global};
 
-/// Returns a line about the file at the path, with the reason.
+/// Returns the message `rvtest: PATH: REASON`.
 pub fn path_message<'a>(
     alloc: Global,
     path: &'a str,
@@ -33,8 +33,8 @@ pub fn path_message<'a>(
     )
 }
 
-/// Returns the message about a numbered line or job of the file at the path: `label` is the text before the number, and `reason` is the
-/// text after it.
+/// Returns a message about a line or a job, with this number, of the file at the path: `label` is the text before the number, and `reason`
+/// the text after it.
 pub fn path_number_message<'a>(
     alloc: Global,
     path: &'a str,
@@ -56,7 +56,7 @@ pub fn path_number_message<'a>(
     )
 }
 
-/// Writes a message to standard error. A failed write has no other effect.
+/// Writes a message to standard error. If this fails, there is no further effect.
 pub fn write_message<E: Sink>(errors: &mut E, text: &[u8])
     ensures { IsMessageWritten (E.accepted errors.old) (E.accepted errors.new)
         (E.failure_count errors.old) (E.failure_count errors.new) text.now }
@@ -64,7 +64,7 @@ pub fn write_message<E: Sink>(errors: &mut E, text: &[u8])
     let _ = put_all(errors, text);
 }
 
-/// Writes results to standard output. If a write fails, returns `WriteFailed`, and only a prefix of the results is written.
+/// Writes results to standard output. If a write fails, returns `WriteFailed`; a prefix of the results was written then.
 pub fn write_results<O: Sink>(out: &mut O, text: &[u8]) -> Result<(), Stop>
     ensures written { OnOk result (Appends (O.accepted out.old) (O.accepted out.new) text.now) }
     ensures no_failed_writes { OnOk result (O.failure_count out.new ≡ O.failure_count out.old) }
@@ -78,8 +78,8 @@ pub fn write_results<O: Sink>(out: &mut O, text: &[u8]) -> Result<(), Stop>
     }
 }
 
-/// Reports why a command stopped early, and returns the exit status. If the reader of the results closed them, a failed write is not
-/// reported, and the status is 141, as if the signal `SIGPIPE` had ended the program.
+/// Reports why a command stopped early, and returns the exit status. If a write failed because the reader of standard output has closed it,
+/// nothing is reported, and the status is 141, as if the signal `SIGPIPE` had ended the program.
 pub fn put_end_message<E: Sink>(errors: &mut E, stop: Stop, is_out_closed: bool) -> u8
     ensures status { result ≡ end_status is_out_closed stop }
     ensures reported { IsMessageWritten (E.accepted errors.old) (E.accepted errors.new)
@@ -92,7 +92,7 @@ pub fn put_end_message<E: Sink>(errors: &mut E, stop: Stop, is_out_closed: bool)
     }
 }
 
-/// Reports why a command stopped early, and returns the exit status: 2 or 3.
+/// Reports why a command stopped early, and returns the exit status: 2 if the request is rejected, and 3 if the system failed.
 pub fn write_stop_message<E: Sink>(errors: &mut E, stop: Stop) -> u8
     ensures status { result ≡ stop_status stop }
     ensures reported { IsMessageWritten (E.accepted errors.old) (E.accepted errors.new)
@@ -123,7 +123,7 @@ fn message_status(kind: MessageKind) -> u8
     }
 }
 
-/// Writes a message about a system failure to standard error, and returns the exit status 3.
+/// Writes a message about a failure of the system to standard error, and returns the exit status 3.
 pub fn write_failure_message<E: Sink>(errors: &mut E, text: &str) -> u8
     ensures status { result ≡ FAILED }
     ensures reported { IsMessageWritten (E.accepted errors.old) (E.accepted errors.new)

@@ -1,4 +1,4 @@
-//! Reports named in the arguments, which may be truncated if the arguments allow it.
+//! Reports named in the arguments, which can be truncated if the arguments allow it.
 
 ghost use Rattle.std.specs.Prelude.{◌≡◌, ◌≤◌, IfErr, IfOk, length};
 ghost use Rattle.rv_files.specs.Limits.{max_jobs};
@@ -15,14 +15,14 @@ use rv_files::Inputs;
 use rv_rows::{PartialReport, ReadError, read_partial_report};
 use std::alloc::{AllocError, Global};
 
-/// A report named in the arguments, and whether it may be truncated.
+/// A report named in the arguments, and whether it can be truncated.
 #[derive(Clone, Copy)]
 pub struct RequestedReport<'a> {
     pub path: &'a str,
     pub partial: bool,
 }
 
-/// Reads a report. A truncated one is an error, unless `requested.partial` is true: then its complete rows are returned.
+/// Reads a report. If it is truncated and `requested.partial` is true, returns its complete rows; otherwise a truncated report is an error.
 pub fn read_requested_report<D: Inputs>(
     inputs: &D,
     alloc: Global,
@@ -37,7 +37,8 @@ pub fn read_requested_report<D: Inputs>(
     parse_requested_report(alloc, requested, text.as_slice())
 }
 
-/// Parses the text of a report. A truncated one is an error, unless `requested.partial` is true: then its complete rows are returned.
+/// Parses the text of a report. If it is truncated and `requested.partial` is true, returns its complete rows; otherwise a truncated report
+/// is an error.
 pub fn parse_requested_report(
     alloc: Global,
     requested: RequestedReport<'_>,
@@ -57,7 +58,7 @@ pub fn parse_requested_report(
     })
 }
 
-// Parses the text of a report that may be truncated: then its complete rows are returned.
+// Parses the text of a report. If it is truncated, returns its complete rows.
 fn parse_partial_report(alloc: Global, path: &str, text: &[u8]) -> Result<PartialReport, Stop>
     ensures read { IfOk result (λ report. IsReadAs text.now report.is_truncated report.report) }
     ensures at_most_max { IfOk result (λ report. length report.report.rows ≤ max_jobs) }
@@ -66,12 +67,12 @@ fn parse_partial_report(alloc: Global, path: &str, text: &[u8]) -> Result<Partia
     match read_partial_report(alloc, text) {
         Ok(report) => Ok(report),
         Err(ReadError::Line(line)) => Err(report_line_stop(alloc, path, text, line)),
-        // A truncated report is accepted.
+        // Truncated reports are accepted here.
         Err(ReadError::OutOfMemory | ReadError::Truncated) => Err(Stop::OutOfMemory),
     }
 }
 
-/// Returns the note about a truncated report: how many complete rows it has. It is empty for a complete report.
+/// Returns the note that a report is truncated, with the number of its complete rows; empty if it is complete.
 pub fn truncation_note(
     alloc: Global,
     path: &str,

@@ -1,4 +1,4 @@
-//! Reading reports.
+//! Reading complete reports.
 
 ghost use Rattle.std.specs.Prelude.{◌≡◌, ◌≤◌, IfErr, IfOk, length};
 ghost use Rattle.rv_files.specs.Limits.{max_jobs};
@@ -44,7 +44,7 @@ pub fn parse_report(alloc: Global, path: &str, text: &[u8]) -> Result<SavedRepor
     }
 }
 
-/// Returns the stop that reports the invalid line with this number of a report, or that the file is a job list.
+/// Returns the stop that reports the invalid line of a report with this number, or that the file is a job list.
 pub(crate) fn report_line_stop(alloc: Global, path: &str, text: &[u8], line: usize) -> Stop
     ensures { IsLineStop path.now text.now line result }
 {

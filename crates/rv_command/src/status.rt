@@ -1,16 +1,16 @@
-//! The statuses of `rvtest`.
+//! The exit statuses of `rvtest`.
 
-/// All is well: no job failed, no report differs.
+/// Success: no job failed, and no report differs.
 pub const DONE: u8 = 0;
 
-/// Some job failed, or two reports differ.
+/// A job failed, or two reports differ.
 pub const SOME_FAIL: u8 = 1;
 
 /// The arguments, a list or a report are rejected.
 pub const REJECTED: u8 = 2;
 
-/// The system failed.
+/// The system failed: memory ran out, a thread could not be started, or a read or a write failed.
 pub const FAILED: u8 = 3;
 
-/// The reader of standard output closed it; the status is that of a program ended by the signal `SIGPIPE`.
+/// The reader of standard output has closed it. This is the status of a program that the signal `SIGPIPE` ended.
 pub const BROKEN_PIPE: u8 = 141;

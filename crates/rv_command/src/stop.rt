@@ -9,27 +9,27 @@ use std::alloc::AllocError;
 /// Why a command stops early.
 #[derive(Drop)]
 pub enum Stop {
-    /// For the reason in these lines.
+    /// A message, as lines for standard error.
     Message(MessageKind, Vec<u8>),
     /// An allocation failed.
     OutOfMemory,
     /// A thread could not be started.
     NoWorker,
-    /// A write to the stream of results failed.
+    /// A write to standard output failed.
     WriteFailed,
 }
 
-/// What the lines of a stop say.
+/// What a message is about.
 #[derive(Clone, Copy)]
 pub enum MessageKind {
-    /// Why the request is rejected.
+    /// The arguments, a list or a report are rejected.
     Rejection,
-    /// How the system failed.
+    /// The system failed.
     Failure,
 }
 
 impl Stop {
-    /// Returns the stop that rejects the arguments with the text of their error.
+    /// Returns the stop that rejects the arguments with the text of this error.
     pub fn of_args_error(error: ArgsError) -> Stop
         ensures { IsArgsRejection error result }
     {
@@ -39,21 +39,21 @@ impl Stop {
         }
     }
 
-    /// Returns the stop that rejects the request with this message, or out of memory if the message could not be made.
+    /// Returns the stop that rejects the request with this message. If the message could not be made, returns `OutOfMemory`.
     pub fn rejection(message: Result<Vec<u8>, AllocError>) -> Stop
         ensures { result ≡ stop_with_message MessageKind.Rejection message }
     {
         Stop::with_message(MessageKind::Rejection, message)
     }
 
-    /// Returns the stop that reports a system failure with this message, or out of memory if the message could not be made.
+    /// Returns the stop that reports a failure of the system with this message. If the message could not be made, returns `OutOfMemory`.
     pub fn system_failure(message: Result<Vec<u8>, AllocError>) -> Stop
         ensures { result ≡ stop_with_message MessageKind.Failure message }
     {
         Stop::with_message(MessageKind::Failure, message)
     }
 
-    // Returns the stop with this message, which is of this kind, or out of memory if the message could not be made.
+    // Returns the stop with this message, of this kind. If the message could not be made, returns `OutOfMemory`.
     fn with_message(kind: MessageKind, message: Result<Vec<u8>, AllocError>) -> Stop
         ensures { result ≡ stop_with_message kind message }
     {

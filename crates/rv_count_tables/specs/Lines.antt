@@ -45,6 +45,6 @@ abbrev pub bytes_if_decoded : Result (List ℕ) FromHexError → List ℕ
 bytes_if_decoded (Ok bytes) = bytes
 bytes_if_decoded (Err error) = []
 
--- the bytes that hexadecimal digits encode, or no bytes if the text has other characters
+-- the bytes that hexadecimal digits encode, or no bytes if the text is not a valid encoding
 unfoldable pub hex_bytes : List ℕ → List ℕ
 hex_bytes text = bytes_if_decoded (decode_of text)

@@ -1,4 +1,4 @@
--- The lines of nodes, made with an index of the fields that all lines of one function have.
+-- The lines of nodes, built from an index of the fields that all lines of one function share.
 use Rattle.std.specs.Prelude.{◌≡◌, ◌++◌, ℕ, List, [], Option, Some, None, option_map, codes}
 use Rattle.std.specs.BTreeMap.{BTreeMap, get}
 use Rattle.std.specs.Fmt.{decimal}
@@ -10,7 +10,7 @@ use Rattle.rv_count_tables.specs.Table.{name_of}
 use Rattle.rv_count_tables.specs.Text.{line, node_line}
 use Rattle.rv_call_tree.specs.declared.call_node.CallNode.{CallNode}
 
--- the fields that all lines of a function have: the digits of its address, and its name
+-- the fields that all lines of a function share: the digits of its address, and its name
 abbrev pub fields_of_function : ℕ → List ℕ → FunctionFields
 fields_of_function function name = record { digits = word_digits function; name = name }
 

@@ -34,7 +34,7 @@ abbrev pub with_names : List FunctionName → List NamedCallNode → List Functi
 with_names names [] = names
 with_names names (n ∷ ns) = with_names (with_name (function_name n) names) ns
 
--- the two names of a function are equal, or there is no earlier name
+-- the name of a function equals its earlier name, or there is no earlier name
 abbrev pub AgreesWithName : List ℕ → Option (List ℕ) → Type 0
 AgreesWithName name None = Unit {0}
 AgreesWithName name (Some other) = name ≡ other
@@ -66,16 +66,16 @@ entries_of i = map Address i.addresses ++ map (entry_of_node i.functions) i.node
 
 -- ---- which lines can come next
 
--- which lines can come next: the least address, if an address can come next, and the path of the preceding node, if a node can
+-- the lines of addresses and nodes that can come next in a table
 pub record NextLines : Type 0 where
-  -- the lowest address that can come next, if an address can
+  -- the lowest address that can come next, or `None` if no address can
   pub address : Option ℕ
   -- the names of functions so far
   pub names : List FunctionName
-  -- the path of the preceding node, if a node can come next
+  -- the path of the preceding node, or `None` if no node can come next
   pub previous_path : Option (List ℕ)
 
--- before the first image, no line of an address or a node can come next
+-- the lines that can come next before the first image: neither an address nor a node
 abbrev pub before_first_image : NextLines
 before_first_image = record { address = None; names = []; previous_path = None }
 
@@ -83,7 +83,7 @@ before_first_image = record { address = None; names = []; previous_path = None }
 abbrev pub after_image_line : NextLines
 after_image_line = record { address = Some 0; names = []; previous_path = Some [] }
 
--- the path of a node that follows a node with the path `previous_path`, or `None` if no node can come next
+-- the path of `node`, which follows a node with the path `previous_path`; `None` if no node could come next
 abbrev pub next_path : Option (List ℕ) → CallNode → Option (List ℕ)
 next_path None node = None
 next_path (Some previous_path) node = Some (path_after previous_path node)

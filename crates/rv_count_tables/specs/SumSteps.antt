@@ -77,7 +77,8 @@ pub record IsNextImage (a b : List ImageCounts) (next : NextImage) : Type 0 wher
   pub ahead : (others : List ImageCounts) → ImagesAddUp (drop next.count_in_a a) (drop next.count_in_b b) others
       → ImagesAddUp a b (next.image ∷ others)
 
--- the error is true of the image with some digest in the two lists; `OutOfMemory` is always true
+-- the error is true of adding the two lists of images; for all errors but `OutOfMemory`, which is always true, there is an image for which
+-- it is
 abbrev pub ImagesHaveNoSum : SumError → List ImageCounts → List ImageCounts → Type 0
 ImagesHaveNoSum OutOfMemory a b = Unit {0}
 ImagesHaveNoSum (Count address) a b = (digest : List ℕ)
@@ -89,7 +90,7 @@ ImagesHaveNoSum (Names function) a b = (digest : List ℕ) × (name : List ℕ) 
     × HasNameIn digest function name a × HasNameIn digest function other b × (name ≡ other → ⊥)
 ImagesHaveNoSum Runs a b = ⊥
 
--- the error is true of these two images, which are added
+-- the error is true of adding these two images, which have one digest
 abbrev pub ImageHasNoSum : SumError → ImageCounts → ImageCounts → Type 0
 ImageHasNoSum OutOfMemory a b = Unit {0}
 ImageHasNoSum (Count address) a b = CountsHaveNoSum (Count address) a.addresses b.addresses

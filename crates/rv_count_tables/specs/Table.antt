@@ -15,12 +15,12 @@ use Rattle.rv_call_tree.specs.Trees.{calls_at, steps_at, IsTree}
 
 -- ---- the counts in a table
 
--- how often the instruction at an address was executed
+-- how often the instruction at an address was executed, according to these counts
 abbrev pub executed_at : ℕ → List AddressCounts → ℕ
 executed_at address [] = 0
 executed_at address (c ∷ cs) = (if c.address == address then c.executed else 0) + executed_at address cs
 
--- how often the instruction at an address was a taken conditional branch
+-- how often the instruction at an address was a taken conditional branch, according to these counts
 abbrev pub taken_at : ℕ → List AddressCounts → ℕ
 taken_at address [] = 0
 taken_at address (c ∷ cs) = (if c.address == address then c.taken else 0) + taken_at address cs

@@ -12,7 +12,7 @@ use Rattle.rv_count_tables.specs.declared.table.CountTable.{CountTable}
 use Rattle.rv_count_tables.specs.Table.{name_of}
 use Rattle.rv_call_tree.specs.declared.call_node.CallNode.{CallNode}
 
--- the text as a line, which ends with a line feed
+-- the text with a line feed at its end
 abbrev pub line : List ℕ → List ℕ
 line text = text ++ 10 ∷ []
 
@@ -38,7 +38,7 @@ abbrev pub name_or_empty : Option (List ℕ) → List ℕ
 name_or_empty None = []
 name_or_empty (Some name) = name
 
--- a node with the name of its function in the list, or with an empty name if it has none there
+-- a node with the name of its function in the list, or with an empty name if the list has none
 abbrev pub named : List FunctionName → CallNode → NamedCallNode
 named names node = record { node = node; name = name_or_empty (name_of node.function names) }
 

@@ -1,4 +1,4 @@
-//! Laws on tables and sums, with no code to run.
+//! Laws of tables and sums. These functions are proved and have no code.
 
 ghost use Rattle.std.specs.Prelude.{◌≡◌, ℕ, List};
 ghost use Rattle.rv_count_tables.specs.declared.table.AddressCounts.{AddressCounts};
@@ -25,8 +25,8 @@ pub fn sums_of_counts_associate()
         → IsSumOfCounts b c bc → IsSumOfCounts a bc last → first ≡ last }
 {}
 
-/// Proves that two tables are equal if they have equally many runs and the same images, and each image has the same path and function
-/// names, and equal counts at each address and of each call path.
+/// Proves that two tables are equal if they have the same number of runs and if each image has the same path, the same function names, and
+/// equal counts at each address and of each call path in both.
 pub fn tables_with_equal_counts_are_equal()
     ensures { (t u : CountTable) → IsValidTable t → IsValidTable u
         → ((digest : List ℕ) (address : ℕ) → executed_in digest address t.images ≡ executed_in digest address u.images)
@@ -51,7 +51,7 @@ pub fn tables_with_equal_texts_are_equal()
     ensures { (t u : CountTable) → IsValidTable t → IsValidTable u → table_text t ≡ table_text u → t ≡ u }
 {}
 
-/// Proves that adding the table of no runs changes nothing.
+/// Proves that adding the empty table changes nothing.
 pub fn empty_table_adds_nothing()
     ensures { (t : CountTable) → IsValidTable t → IsSumOfTables no_counts t t }
 {}

@@ -40,7 +40,7 @@ pub use table::{
 };
 pub use text::table_text;
 
-// From the crates below: what this interface names, and what its callers need with it.
+// Re-exports from lower crates: the types in this interface, and what its callers need with them.
 pub use rv_call_tree::{
     Bytes, CallNode, CallNodes, CallTreeIndex, FunctionSteps, Text, own_steps_sum_to_all,
     trees_with_equal_counts_are_equal,

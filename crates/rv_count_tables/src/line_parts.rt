@@ -1,4 +1,5 @@
-//! The values of the parts of a line. Any text has values; whether a table can have the line is checked by formatting the values again.
+//! Parses the parts of a line. These functions return a value for any text; whether the line is valid is checked afterwards, by formatting
+//! the values again.
 
 ghost use Rattle.std.specs.Prelude.{◌≡◌, ◌≤◌, ◌<◌, ◌^◌, ℕ, IfOk, take, length};
 ghost use Rattle.std.specs.Fmt.{decimal};
@@ -60,7 +61,7 @@ pub(crate) fn whole_line(text: &[u8]) -> &[u8]
     }
 }
 
-/// Returns the value of a number that is written in decimal.
+/// Returns the value of a decimal number below 2^64. For any other text, the result is arbitrary.
 pub(crate) fn decimal_number(text: &[u8]) -> u64
     ensures { (number : ℕ) → number < 2 ^ 64 → text.now ≡ decimal number → result ≡ number }
 {
@@ -73,7 +74,7 @@ pub(crate) fn decimal_number(text: &[u8]) -> u64
     value
 }
 
-/// Returns the value of a 32-bit word that is written in lower-case hexadecimal digits.
+/// Returns the value of a 32-bit word that is written in eight lower-case hexadecimal digits. For any other text, the result is arbitrary.
 pub(crate) fn hex_word(digits: &[u8]) -> u32
     ensures { (word : ℕ) → word < 2 ^ 32 → digits.now ≡ word_digits word → result ≡ word }
 {
@@ -86,14 +87,14 @@ pub(crate) fn hex_word(digits: &[u8]) -> u32
     value
 }
 
-// Returns the value of a lower-case hexadecimal digit.
+// Returns the value of a lower-case hexadecimal digit. For any other byte, the result is arbitrary.
 fn hex_digit_value(b: u8) -> u8
     ensures { result ≡ hex_digit_value b }
 {
     if b < 97 { b.saturating_sub(48) } else { b - 87 }
 }
 
-/// Returns the bytes that hexadecimal digits encode, or no bytes if the text has other characters.
+/// Returns the bytes that hexadecimal digits encode, or no bytes if the text is not a valid encoding.
 #[tactic(auto, unfolding(crate::specs::Lines::hex_bytes))]
 pub(crate) fn hex_bytes(alloc: Global, text: &[u8]) -> Result<Vec<u8>, AllocError>
     ensures { IfOk result (λ bytes. bytes.items ≡ hex_bytes text.now) }

@@ -11,7 +11,7 @@ use std::alloc::{AllocError, Global};
 use std::collections::BTreeMap;
 use std::marker::Model;
 
-/// The names of functions, which are found and added in logarithmic time. Contracts see them as a list sorted by function.
+/// A map from functions to their names, with look-ups and insertions in logarithmic time. Contracts see it as a list sorted by function.
 #[derive(Drop)]
 pub(crate) struct NamesByFunction {
     names: BTreeMap<u32, Text>,

@@ -1,4 +1,4 @@
-//! Vectors that grow by one element.
+//! Appends to a vector.
 
 ghost use Rattle.std.specs.Prelude.{◌≡◌, ◌++◌, ◌∷◌, [], OnOk};
 

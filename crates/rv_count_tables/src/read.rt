@@ -21,10 +21,11 @@ pub enum ReadError {
     /// An allocation failed.
     #[error("out of memory")]
     OutOfMemory,
-    /// The first invalid line, counted from 1: some table begins with the lines before it, but none with these lines and this one.
+    /// The number, counted from 1, of the first invalid line: the lines before it are the start of some table, but together with this line
+    /// they are not.
     #[error("invalid line {0}")]
     Line(usize),
-    /// The text is truncated: its complete lines begin some table.
+    /// The text ends before the table does: its complete lines are the start of some table. An incomplete last line is not checked.
     #[error("the table is truncated")]
     Truncated,
 }
@@ -46,7 +47,7 @@ pub fn read_table(alloc: Global, bytes: &[u8]) -> Result<CountTable, ReadError>
     // Every valid table with this text is the result.
     ensures accepts { (table : Table) → IsValidTable table → table_text table ≡ bytes.now
         → IsOkOrOutOfMemory table result }
-    // Some table begins with the lines before the reported one, and none with those lines and the reported one.
+    // If a line is reported, the lines before it are the start of some table, but together with this line they are not.
     ensures first_error { IfErr result (λ error. IsFirstError error bytes.now) }
 {
     if whole_line(bytes) != "rvcounts 1\n".as_bytes() {

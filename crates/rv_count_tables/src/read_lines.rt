@@ -1,5 +1,4 @@
-//! Parses the lines of a table as far as they are valid. The values of each line are formatted again, and the result is compared with the
-//! line.
+//! Parses the lines of a table as far as they are valid. To check a line, its values are formatted again and compared with it.
 
 ghost use Rattle.std.specs.Prelude.{◌≡◌, ◌≤◌, ◌<◌, ◌^◌, ℕ, Some, None, IfOk, IfSome, IfNone, length, true, IsTrue, ◌↔◌, ◌&&◌, ◌==◌, nat_le, nat_lt};
 ghost use Rattle.std.specs.List.{AllByRecursion};

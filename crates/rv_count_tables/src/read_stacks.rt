@@ -1,4 +1,4 @@
-//! Parses the lines of call-tree nodes as far as they are valid, in the way that `read_lines` parses the lines of addresses.
+//! Parses the lines of call-tree nodes as far as they are valid. Each line is checked as in `read_lines`: its values are formatted again.
 
 ghost use Rattle.std.specs.Prelude.{◌≡◌, ◌≤◌, ◌<◌, ◌^◌, ℕ, List, IfOk, IfSome, IfNone, IsTrue, ◌↔◌};
 ghost use Rattle.std.specs.Str.{bytes_eq, IsUtf8};

@@ -17,16 +17,16 @@ pub enum SumError {
     /// An allocation failed.
     #[error("out of memory")]
     OutOfMemory,
-    /// The instruction at this address was executed 2^64 times or more, in one image.
+    /// At this address of some image, the numbers of executions add up to 2^64 or more.
     #[error("the count at {0:08x} does not fit in 64 bits")]
     Count(u32),
-    /// A number of a node of this function is 2^64 or more, in one image.
+    /// In some image, the calls or the steps of a node with this function add up to 2^64 or more.
     #[error("a stack count of the function at {0:08x} does not fit in 64 bits")]
     Node(u32),
-    /// This function of an image has different names in the two tables.
+    /// In some image, the function at this address has different names in the two tables.
     #[error("the function at {0:08x} has two names in one image")]
     Names(u32),
-    /// The number of runs is 2^64 or more.
+    /// The numbers of runs add up to 2^64 or more.
     #[error("the number of runs does not fit in 64 bits")]
     Runs,
 }
@@ -52,8 +52,8 @@ impl From<CallTreeSumError> for SumError {
     }
 }
 
-/// Returns the sum of two tables, or why there is none. Images are identified by their digests, and their counts are added. Allocates only
-/// the sum.
+/// Returns the sum of two tables, or why there is none. Images are the same if their digests are equal; their counts are added. Allocates
+/// memory for the sum only.
 pub fn sum_of_tables(alloc: Global, a: &CountTable, b: &CountTable) -> Result<CountTable, SumError>
     requires a { IsValidTable a.now }
     requires b { IsValidTable b.now }

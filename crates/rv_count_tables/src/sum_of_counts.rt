@@ -13,7 +13,7 @@ use crate::table::{AddressCounts, Addresses};
 use std::alloc::Global;
 
 /// Returns the sum of two lists of counts, in which the counts of each address are added, or an error if a number would not fit in 64 bits.
-/// Allocates only the sum.
+/// Allocates memory for the sum only.
 pub(crate) fn sum_of_counts(
     alloc: Global,
     a: &[AddressCounts],
@@ -36,7 +36,7 @@ pub(crate) fn sum_of_counts(
     Ok(Addresses::new(sums))
 }
 
-/// The first counts of a sum, and how many counts of each list they add up.
+/// The first counts of a sum, and how many counts (0 or 1) of each list are added up in them.
 #[derive(Clone, Copy)]
 pub(crate) struct NextCount {
     pub(crate) sum: AddressCounts,
@@ -44,7 +44,7 @@ pub(crate) struct NextCount {
     pub(crate) count_in_b: usize,
 }
 
-// Returns the counts of the lowest address in the sum of two lists, and how many counts of each list they are made of.
+// Returns the counts of the lowest address in the sum of two lists, and how many counts (0 or 1) of each list are added up in them.
 fn next_count(a: &[AddressCounts], b: &[AddressCounts]) -> Result<NextCount, SumError>
     requires a { AllByRecursion IsValidCount a.now }
     requires b { AllByRecursion IsValidCount b.now }
@@ -72,7 +72,7 @@ fn next_count(a: &[AddressCounts], b: &[AddressCounts]) -> Result<NextCount, Sum
     })
 }
 
-// Returns `sum` as the next counts of a sum, which only the first list has.
+// Returns the first counts of a sum if only the first list has their address.
 fn count_of_first(sum: AddressCounts) -> NextCount
     ensures { result ≡ record { sum = sum; count_in_a = 1; count_in_b = 0 } }
 {
@@ -83,7 +83,7 @@ fn count_of_first(sum: AddressCounts) -> NextCount
     }
 }
 
-// Returns `sum` as the next counts of a sum, which only the second list has.
+// Returns the first counts of a sum if only the second list has their address.
 fn count_of_second(sum: AddressCounts) -> NextCount
     ensures { result ≡ record { sum = sum; count_in_a = 0; count_in_b = 1 } }
 {
@@ -94,7 +94,7 @@ fn count_of_second(sum: AddressCounts) -> NextCount
     }
 }
 
-// Returns the sum of two counts of one address, or an error if a number would not fit in 64 bits.
+// Returns the sum of two counts of one address, or an error if the number of executions would not fit in 64 bits.
 fn sum_at_address(a: AddressCounts, b: AddressCounts) -> Result<AddressCounts, SumError>
     requires a { IsValidCount a }
     requires b { IsValidCount b }
@@ -106,7 +106,7 @@ fn sum_at_address(a: AddressCounts, b: AddressCounts) -> Result<AddressCounts, S
     ensures fits { IfOk result (λ sum. sum.executed < 2 ^ 64) }
 {
     match a.executed.checked_add(b.executed) {
-        // Each count was taken at most as often as executed, so this sum fits, too.
+        // Neither count was taken more often than it was executed, so the sum of `taken` fits as well.
         Some(executed) => Ok(AddressCounts {
             address: a.address,
             executed,

@@ -17,7 +17,7 @@ use crate::union_of_names::{copy_of_names, union_of_names};
 use rv_call_tree::{CallNodes, Text, sum_of_call_trees};
 use std::alloc::{AllocError, Global};
 
-/// Returns the sum of the images of two tables, sorted by digest, or why there is none. Allocates only the sum.
+/// Returns the sum of the images of two tables, sorted by digest, or why there is none. Allocates memory for the sum only.
 pub(crate) fn sum_of_images(
     alloc: Global,
     a: &[ImageCounts],
@@ -56,7 +56,7 @@ pub(crate) fn add_images(alloc: Global, a: Images, b: Images) -> Result<Images, 
     sum_of_images(alloc, a.as_slice(), b.as_slice())
 }
 
-/// The first image of a sum, and how many images of each list it adds up.
+/// The first image of a sum, and how many images (0 or 1) of each list are added up in it.
 #[derive(Drop)]
 pub(crate) struct NextImage {
     pub(crate) image: ImageCounts,
@@ -64,7 +64,7 @@ pub(crate) struct NextImage {
     pub(crate) count_in_b: usize,
 }
 
-// Returns the image with the lowest digest in the sum of two lists, and how many images of each list it is made of.
+// Returns the image with the lowest digest in the sum of two lists, and how many images (0 or 1) of each list are added up in it.
 fn next_image(alloc: Global, a: &[ImageCounts], b: &[ImageCounts]) -> Result<NextImage, SumError>
     requires a { AllByRecursion IsValidImage a.now }
     requires b { AllByRecursion IsValidImage b.now }
@@ -94,7 +94,7 @@ fn next_image(alloc: Global, a: &[ImageCounts], b: &[ImageCounts]) -> Result<Nex
     })
 }
 
-// Returns a copy of an image as the next image of a sum, which only the first list has.
+// Returns a copy of an image as the first image of a sum if only the first list has its digest.
 fn image_of_first(alloc: Global, image: &ImageCounts) -> Result<NextImage, SumError>
     ensures value { IfOk result (λ next. next ≡ record { image = image.now; count_in_a = 1; count_in_b = 0 }) }
     ensures error { IfErr result (λ error. error ≡ OutOfMemory) }
@@ -107,7 +107,7 @@ fn image_of_first(alloc: Global, image: &ImageCounts) -> Result<NextImage, SumEr
     })
 }
 
-// Returns a copy of an image as the next image of a sum, which only the second list has.
+// Returns a copy of an image as the first image of a sum if only the second list has its digest.
 fn image_of_second(alloc: Global, image: &ImageCounts) -> Result<NextImage, SumError>
     ensures value { IfOk result (λ next. next ≡ record { image = image.now; count_in_a = 0; count_in_b = 1 }) }
     ensures error { IfErr result (λ error. error ≡ OutOfMemory) }

@@ -49,16 +49,16 @@ pub struct ImageCounts {
     pub path: Text,
     /// The counts, sorted by address.
     pub addresses: Addresses,
-    /// The functions that the nodes end in, each once, sorted by address.
+    /// The names of the functions in which the nodes' paths end, each function once, sorted by address.
     pub functions: FunctionNames,
     /// The call tree; empty if call paths were not counted.
     pub nodes: CallNodes,
 }
 
-/// How often each instruction of each image was executed in some runs.
+/// The counts of some runs: for each image, how often each instruction was executed and, if call paths were counted, its call tree.
 #[derive(Debug, Drop)]
 pub struct CountTable {
-    /// Sorted by digest, in byte order.
+    /// The images, each once, sorted by digest in byte order.
     pub images: Images,
     /// The number of counted jobs; a refused job does not count.
     pub runs: u64,

@@ -229,7 +229,7 @@ fn rejects_two_names(rt: HostRuntime) -> Result<(), Fail> {
     }
 }
 
-// What follows the line of an image, and which line is rejected.
+// Lines after the line of an image, and the number of the line that is rejected.
 const REFUSED_STACKS: [(&str, usize); 13] = [
     ("spot 1 80000000 1 1 a\n", 3),
     ("spot 0 80000000 0 1 a\n", 3),
@@ -269,7 +269,7 @@ rvcounts 1
 image 428abbe1347171d7e00df3badf31776c1ef4445e0516044cf7a638356db5f470 a
 ";
 
-// A table can have the lowest address, the highest one, and one that begins with `d`, as the last line does.
+// A table can have the lowest address, the highest one, and an address that begins with the letter `d`, as the last line (`done`) does.
 #[test]
 fn reads_addresses_from_end_to_end(rt: HostRuntime) -> Result<(), Fail> {
     check_sum(rt.alloc(), HIGH, "rvcounts 1\ndone 0 0\n", HIGH)

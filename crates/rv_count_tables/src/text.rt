@@ -79,14 +79,14 @@ fn push_nodes(
     Ok(())
 }
 
-/// The fields that the lines of all nodes of one function have.
+/// The fields that are the same in the lines of all nodes with one function: the digits of its address, and its name.
 #[derive(Drop)]
 pub(crate) struct FunctionFields {
     pub(crate) digits: Text,
     pub(crate) name: Text,
 }
 
-// Returns a map from each function to its fields in the lines of nodes; the first name of each function counts.
+// Returns a map from each function to its fields in the lines of nodes. If a function has several names, the first one is used.
 fn index_of_functions(
     alloc: Global,
     names: &[FunctionName],
@@ -165,7 +165,7 @@ pub(crate) fn push_address_line(
     write!(text, "{address} {executed} {taken}\n")
 }
 
-/// Appends the line of a node, which ends with this name of its function.
+/// Appends the line of a node; `name` is the name of its function.
 #[tactic(auto, unfolding(crate::specs::ParsedNodes::node_line_with_digits, crate::specs::ParsedNodes::fields_with_digits, crate::specs::Text::node_line, crate::specs::Text::fields_of_node, rv_text::specs::Numbers::word_digits))]
 pub(crate) fn push_node_line(
     alloc: Global,
@@ -179,7 +179,7 @@ pub(crate) fn push_node_line(
     push_line_with_digits(text, node, digits.as_str(), name)
 }
 
-// Appends the line of a node, with these digits for the address of its function.
+// Appends the line of a node; `digits` and `name` are the address and the name of its function.
 #[tactic(auto, unfolding(crate::specs::ParsedNodes::node_line_with_digits))]
 fn push_line_with_digits(
     text: &mut String,
@@ -194,7 +194,7 @@ fn push_line_with_digits(
     text.push_str("\n")
 }
 
-// Appends the fields of a node's line before the name, with these digits for the address of its function.
+// Appends the fields of a node's line up to the name; `digits` is the address of its function.
 #[tactic(auto, unfolding(crate::specs::ParsedNodes::fields_with_digits))]
 fn push_fields_with_digits(
     text: &mut String,
@@ -218,7 +218,7 @@ fn push_field(text: &mut String, field: &str) -> Result<(), AllocError>
     text.push_str(field)
 }
 
-// Appends a space and a number. With `write!` a line takes about a third longer, and a table can have hundreds of thousands of lines.
+// Appends a space and a number. `write!` would take about a third longer for a line, and a table can have hundreds of thousands of lines.
 fn push_number(text: &mut String, number: u64) -> Result<(), AllocError>
     ensures { OnOk result (string_bytes text.new ≡ string_bytes text.old ++ codes " " ++ decimal number) }
 {

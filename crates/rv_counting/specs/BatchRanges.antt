@@ -10,7 +10,7 @@ abbrev pub HaveOneImage : PlanView → List ℕ → Type 0
 HaveOneImage plan indices = (k : ℕ) (d : Job) → k < length indices
     → (job_at plan (slice_index_or indices k 0) d).image ≡ (job_at plan (slice_index_or indices 0 0) d).image
 
--- the piece with this number, counted from 0; an empty one if there is no such piece
+-- the piece with this number, counted from 0; an empty one if there are fewer pieces
 abbrev pub range_at : List IndexRange → ℕ → IndexRange
 range_at pieces k = slice_index_or pieces k (record { begin = 0; end = 0 })
 
@@ -18,7 +18,7 @@ range_at pieces k = slice_index_or pieces k (record { begin = 0; end = 0 })
 abbrev pub indices_in : List ℕ → IndexRange → List ℕ
 indices_in indices piece = slice_range indices piece.begin piece.end
 
--- where the piece with this number must begin: at the end of the one before it, or at 0
+-- where the piece with this number must begin: at 0 for the first, and otherwise at the end of the one before it
 abbrev pub range_start : List IndexRange → ℕ → ℕ
 range_start pieces zero = 0
 range_start pieces (suc k) = (range_at pieces k).end

@@ -29,12 +29,12 @@ unfoldable pub start_state_of_image : List PathResult → List ℕ → Job → O
 start_state_of_image answers digest job =
     if has_digest digest (image_bytes answers job) then result_ok (start_state_in answers job) else None
 
--- how often a run from this state executes the instruction at an address, within a budget of `n` steps; 0 if there is no state
+-- how often a run from this state executes the instruction at an address, within a budget of `n` steps; 0 if there is no such state
 abbrev pub executed_from : ℕ → ℕ → Option State → ℕ
 executed_from address n None = 0
 executed_from address n (Some s) = executed_in_run address n s
 
--- how often a run from this state takes the branch at an address, within a budget of `n` steps; 0 if there is no state
+-- how often a run from this state takes the branch at an address, within a budget of `n` steps; 0 if there is no such state
 abbrev pub taken_from : ℕ → ℕ → Option State → ℕ
 taken_from address n None = 0
 taken_from address n (Some s) = taken_in_run address n s
@@ -55,7 +55,8 @@ path_by answers digest job = option_map (λ s. printable_text job.image) (start_
 abbrev pub runs_by : List PathResult → Job → ℕ
 runs_by answers job = address_if (is_ok (start_state_in answers job))
 
--- the first path in byte order by which the jobs that run the image with this digest name it, or `None` if none runs it
+-- of the printable paths by which the jobs that run the image with this digest name it, the first in byte order, or `None` if no job runs
+-- it
 abbrev pub first_path : List PathResult → List ℕ → List Job → Option (List ℕ)
 first_path answers digest [] = None
 first_path answers digest (j ∷ js) = min_text_of (path_by answers digest j) (first_path answers digest js)
@@ -100,7 +101,8 @@ IsTableOfJobsAt plan indices t = IsTableOfJobs plan.results (jobs_at plan indice
 
 -- ---- sums that fit
 
--- the numbers of the table are as small as this many jobs can make them, and it has no call trees
+-- the numbers of the table are within the limits for this many jobs: at most 2^32 executions of each instruction for each job, and one run
+-- for each job; the table has no call trees
 pub record IsTableOfFew (jobs : ℕ) (t : CountTable) : Type 0 where
   pub executed : (digest : List ℕ) (address : ℕ) → executed_in digest address t.images ≤ jobs * 2 ^ 32
   pub runs : t.runs ≤ jobs

@@ -17,7 +17,8 @@ use Rattle.rv_counting.specs.Coverage.{address_if, AreConsistentCounts}
 use Rattle.rv_counting.specs.JobTables.{executed_from, taken_from, runs_by}
 use Rattle.rv_counting.specs.Tallies.{IsIndexed}
 
--- another run can be counted: there are few counts, and few generations of the code
+-- another run can be counted: the counts and the generations of the code are within the limits for the runs so far, at most 2^32 for each
+-- run
 pub record CanCountRuns (c : RunsCounter) : Type 0 where
   pub consistent : AreConsistentCounts (counts_of c.counter)
   pub indexed : IsIndexed c.counter.counts_by_address
@@ -25,18 +26,18 @@ pub record CanCountRuns (c : RunsCounter) : Type 0 where
   pub few : (at : ℕ) → executed_at at (counts_of c.counter) ≤ c.runs * 2 ^ 32
   pub generations : c.counter.cache.generation ≤ 1 + c.runs * 2 ^ 32
 
--- a run that begins in this state, if there is one, was counted in addition to the others
+-- `new` is `old` plus the counts of a run from this state within the budget; unchanged if there is no such state
 pub record AddsRun (budget : ℕ) (start : Option State) (old new : RunsCounter) : Type 0 where
   pub ready : CanCountRuns new
   pub runs : new.runs ≡ old.runs + address_if (is_some start)
   pub executed : (at : ℕ) → executed_at at (counts_of new.counter) ≡ executed_at at (counts_of old.counter) + executed_from at budget start
   pub taken : (at : ℕ) → taken_at at (counts_of new.counter) ≡ taken_at at (counts_of old.counter) + taken_from at budget start
 
--- the run of a job was counted in addition to the others, unless the job is refused
+-- `new` is `old` plus the counts of the job's run; unchanged if the job is refused
 abbrev pub AddsJob : List PathResult → Job → RunsCounter → RunsCounter → Type 0
 AddsJob answers job old new = AddsRun job.budget (result_ok (start_state_in answers job)) old new
 
--- the machine has completed so many steps of the job's run as `run` says
+-- the machine is in the state that the job's run reaches after `run.steps` steps
 abbrev pub IsRunOfJob : List PathResult → Job → PartialRun → Type 0
 IsRunOfJob answers job run = IsIntermediateState (start_state_in answers job) job.budget run.steps (state_of run.machine)
 

@@ -5,12 +5,12 @@ use Rattle.rv_count_tables.specs.declared.table.CountTable.{CountTable}
 use Rattle.rv_count_tables.specs.Sum.{no_counts, HaveNoSum}
 use Rattle.rv_counting.specs.JobTables.{SumsTo}
 
--- the sum of the tables that were added so far, and the error if the last one could not be added
+-- the sum of the tables that were added, and the error if the next one could not be added
 pub record TableSumView : Type 0 where
   pub sum : CountTable
   pub failed : Option SumError
 
--- the error if there is one, or else the sum
+-- the error if there is one, else the sum
 abbrev pub sum_or_error : CountTable → Option SumError → Result CountTable SumError
 sum_or_error sum None = Ok sum
 sum_or_error sum (Some error) = Err error

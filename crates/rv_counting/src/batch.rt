@@ -14,9 +14,9 @@ use std::sync::Wait;
 use std::thread::Threads;
 
 /// Runs each job of a batch once more, on the threads of the crew, and returns the sum of the runs' tables, which does not depend on the
-/// crew. Consecutive jobs of one image are counted together, at most 64 of them, whatever the crew's group. Takes memory for the tables
-/// that wait to be added, for two sums, and 256 KiB for each thread's decode cache. A list cannot have enough jobs for a number to reach
-/// 2^64.
+/// crew. Consecutive jobs of one image are counted together, at most 64 of them, whatever the crew's chunk length. Takes memory for the
+/// tables that wait to be added, for two sums, and 256 KiB for each thread's decode cache. The numbers cannot overflow: a list has too few
+/// jobs for one to reach 2^64.
 pub fn count_batch<R: Threads + Wait + Sync>(
     crew: &Crew<'_, R>,
     batch: &Batch<'_>,
@@ -47,7 +47,7 @@ fn run_error_of(error: SumError) -> RunError
     requires { error ≡ OutOfMemory }
 {
     match error {
-        // Out of memory: adding the tables fails for that alone.
+        // Adding the tables can fail for this reason only.
         SumError::OutOfMemory => RunError::OutOfMemory,
         SumError::Count(_) | SumError::Node(_) | SumError::Names(_) | SumError::Runs => {
             unreachable!()

@@ -14,9 +14,9 @@ use rv_count_tables::Addresses;
 use rv_trace::{Machine, PartialRun};
 use std::alloc::{AllocError, Global};
 
-/// Runs a machine within a budget of steps, and returns the counts of the run. Takes longer than the run alone, and a lookup among the
-/// addresses so far for each instruction that does not run as part of a cached block. From time to time it sorts the counts by address.
-/// Takes 256 KiB of memory for the decode cache, and for each executed address its counts and an index entry.
+/// Runs a machine within a budget of steps, and returns the counts of the run. Takes longer than the run alone: each instruction that is
+/// not run as part of a cached block needs a lookup of its counts, and from time to time the counts are sorted by address. Takes 256 KiB of
+/// memory for the decode cache, and for each executed address its counts and an index entry.
 pub fn count_run(alloc: Global, machine: Machine, budget: u32) -> Result<Addresses, AllocError>
     ensures { IfOk result (λ counts. AreCountsOf budget (state_of machine) counts) }
 {
@@ -25,8 +25,8 @@ pub fn count_run(alloc: Global, machine: Machine, budget: u32) -> Result<Address
     Ok(counter.into_addresses())
 }
 
-/// Runs a machine within a budget of steps, and counts what it executes, in addition to earlier counts. Returns the machine after all steps
-/// of the run, and their number.
+/// Runs a machine within a budget of steps, and adds what it executes to the counts. Returns the machine at the end of the run, and the
+/// number of completed steps.
 pub(crate) fn follow_run(
     counter: &mut Counter,
     machine: Machine,

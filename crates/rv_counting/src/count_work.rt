@@ -12,7 +12,7 @@ use rv_fleet::{Batch, Work, WorkerState};
 use std::alloc::{AllocError, Global};
 use std::marker::Model;
 
-/// The table of one or more jobs.
+/// The table of one or more jobs, as the engine delivers it.
 #[derive(Drop)]
 pub struct JobsTable {
     table: CountTable,
@@ -30,7 +30,7 @@ impl Model for JobsTable {
 }
 
 impl JobsTable {
-    /// Returns the result of a job that has this table of counts.
+    /// Returns the result with this table of counts.
     pub fn new(table: CountTable) -> JobsTable
         requires { IsValidTable table }
         ensures { result ≡ table }
@@ -42,13 +42,13 @@ impl JobsTable {
 impl HasTable for JobsTable {
     ghost table = { λ s. s };
 
-    // Returns the table of the job.
+    // Returns the table of counts.
     fn table(&self) -> &CountTable {
         &self.table
     }
 }
 
-/// Computes the table of each piece of a batch.
+/// The work of computing the table of each piece of a batch.
 #[derive(Drop)]
 pub(crate) struct CountWork<'a> {
     pub(crate) batch: &'a Batch<'a>,
@@ -68,17 +68,17 @@ impl Work<JobsTable> for CountWork<'_> {
 
     ghost is_worker_state = { λ _ _. Unit {0} };
 
-    // Returns the number of jobs in the batch.
+    // Returns the number of pieces of the batch.
     fn jobs(&self) -> usize {
         self.pieces.len()
     }
 
-    // Returns a worker's state without spare memory.
+    // Returns a worker's initial state, which has no spare memory yet.
     fn new_worker_state(&self, alloc: Global) -> WorkerState {
         WorkerState::new(alloc)
     }
 
-    // Returns the table of the job with this number in the batch, counted from 0.
+    // Returns the table of the piece with this number, counted from 0.
     fn make(
         &self,
         alloc: Global,

@@ -25,8 +25,8 @@ pub struct CountedRows {
     pub table: CountTable,
 }
 
-/// Runs each job at some indices once, whose images are the same file, and returns their rows and the table of their runs; a refused job
-/// counts as no run. Takes memory for each executed address, and 256 KiB for a decode cache.
+/// Runs the jobs at these indices once each, and returns their rows and the table of their runs; a refused job does not count as a run. All
+/// of the jobs must name the same image file. Takes memory for each executed address, and 256 KiB for a decode cache.
 pub fn count_rows_at(
     alloc: Global,
     plan: &Plan,

@@ -7,7 +7,7 @@ ghost use Rattle.rv_counting.specs.BatchRanges.{AreIndexRanges, IsIndexRange};
 use rv_trace::Plan;
 use std::alloc::{AllocError, Global};
 
-/// Consecutive indices of a batch: from the first up to, but not including, the second.
+/// A range of consecutive positions in a batch, from `begin` up to, but not including, `end`.
 #[derive(Clone, Copy)]
 pub struct IndexRange {
     pub begin: usize,
@@ -17,10 +17,11 @@ pub struct IndexRange {
 /// The maximum number of jobs in a piece.
 const MAX_JOBS_IN_RANGE: usize = 64;
 
-/// How many pieces there are for each worker, if there are enough jobs, so that no worker waits long for the others.
+/// The number of pieces for each worker, if there are enough jobs. With several pieces each, workers finish at about the same time.
 const RANGES_PER_WORKER: usize = 8;
 
-/// Divides jobs into pieces of the same image, each of them as long as it can be without leaving workers idle.
+/// Divides the jobs into pieces of consecutive jobs that name one image. A piece has at most 64 jobs, and fewer if that is needed to keep
+/// all workers busy.
 pub fn ranges_of_images(
     alloc: Global,
     plan: &Plan,
@@ -48,7 +49,7 @@ pub fn ranges_of_images(
     Ok(pieces)
 }
 
-// Returns the end of the piece of at most `max_jobs` jobs that begins at an index.
+// Returns the end of the longest piece that begins at `from` and has at most `max_jobs` jobs.
 fn range_end(plan: &Plan, indices: &[usize], from: usize, max_jobs: usize) -> usize
     requires within { AreJobIndices plan.now indices.now }
     requires some { from < length indices.now }

@@ -1,4 +1,4 @@
-//! Laws on counts, with no code to run.
+//! Laws of counts. These functions are proved and have no code.
 
 ghost use Rattle.std.specs.Prelude.{◌≡◌, ◌+◌, ◌%◌, ◌<◌, ℕ, List, Ok, Err, true};
 ghost use Rattle.std.specs.List.{All, flat_map};
@@ -40,14 +40,13 @@ pub fn counts_have_even_addresses()
     ensures { (n : ℕ) (s : State) (cs : List AddressCounts) → AreCountsOf n s cs → s.pc % 2 ≡ 0 → AreValidCounts cs }
 {}
 
-/// Proves that the table of a set of jobs does not depend on their order.
+/// Proves that the table of some jobs does not depend on their order.
 pub fn jobs_have_one_table()
     ensures { (answers : List PathResult) (jobs others : List Job) (t u : CountTable) → IsPermutation jobs others
         → IsTableOfJobs answers jobs t → IsTableOfJobs answers others u → t ≡ u }
 {}
 
-/// Proves that the tables of the parts of a list add up to the table of the list, however the jobs are divided, and that the sum has the
-/// text of the list's table.
+/// Proves that if jobs are divided into parts in any way, the tables of the parts add up to the table of all jobs, with the same text.
 pub fn tables_of_parts_sum_to_that_of_the_list()
     ensures { (answers : List PathResult) (jobs : List Job) (parts : List (List Job)) (ts : List CountTable)
         (sum whole : CountTable) → IsPermutation (flat_map (λ part. part) parts) jobs
@@ -55,16 +54,16 @@ pub fn tables_of_parts_sum_to_that_of_the_list()
         → table_text sum ≡ table_text whole }
 {}
 
-/// Proves that the tables of all shards, added in any order, give the table of the whole list, and that the sum has the text of that table.
-/// A shard has the jobs whose indices leave one remainder when divided by the number of shards.
+/// Proves that the tables of all shards add up to the table of the whole list, with the same text. A shard has the jobs whose indices leave
+/// one remainder when divided by the number of shards.
 pub fn tables_of_shards_sum_to_that_of_all()
     ensures { (plan : PlanView) (shards : ℕ) (indices : List ℕ) (ts : List CountTable) (sum whole : CountTable)
         → 0 < shards → AreTablesOfShards plan shards indices ts → SumsTo no_counts ts sum
         → IsTableOfJobsAt plan indices whole → table_text sum ≡ table_text whole }
 {}
 
-/// Proves that jobs have equal tables for any two sets of file contents that give each job the same result, such as the contents of all
-/// files and of the jobs' own files.
+/// Proves that a job list's table depends only on the results for the files that its jobs name: two sets of file contents give equal tables
+/// if they give each job the same results.
 pub fn jobs_have_one_table_over_the_same_files()
     ensures { (some others : List PathResult) (jobs : List Job) (t : CountTable) → All (HaveSameResults some others) jobs
         → IsTableOfJobs some jobs t → IsTableOfJobs others jobs t }

@@ -1,10 +1,10 @@
 //! Counts how often each instruction of a run was executed, and how often it was a taken branch.
 //!
-//! [`count_run`] runs a machine within a budget, cached straight-line code as a unit, and returns its counts: for each address exactly how
-//! often an instruction was executed there, and how often it was a taken conditional branch. [`count_batch`] runs the jobs of a batch once
-//! more, consecutive jobs of one image together, and returns their table, which is the sum of the jobs' tables: [`jobs_have_one_table`]
-//! whatever their order, and [`tables_of_shards_sum_to_that_of_all`]. [`TableSum`] adds the tables that a run of the engine computes, each
-//! as soon as all earlier ones are added.
+//! [`count_run`] runs a machine within a budget, executing cached straight-line code a block at a time, and returns its counts: for each
+//! address exactly how often an instruction was executed there, and how often it was a taken conditional branch. [`count_batch`] runs the
+//! jobs of a batch once more, consecutive jobs of one image together, and returns their table, which is the sum of the jobs' tables. It
+//! does not depend on their order ([`jobs_have_one_table`]), and the tables of shards add up to it
+//! ([`tables_of_shards_sum_to_that_of_all`]). [`TableSum`] adds the tables that a run of the engine computes, in order, as they arrive.
 #![tactic(auto)]
 
 mod batch;
@@ -39,7 +39,7 @@ pub use step::{is_branch, is_executed_at_end};
 pub use table_of_jobs::{digest_of, empty_table, images_of_one, shown_text};
 pub use table_sum::{HasTable, TableSum};
 
-// From the crates below: what this interface names, and what its callers need with it.
+// Re-exports from lower crates: the types in this interface, and what its callers need with them.
 pub use rv_count_tables::{CountTable, table_text};
 pub use rv_fleet::{
     Batch, Both, Crew, Flow, Listener, Observer, Row, RowReporter, Rows, RunError, Work,

@@ -14,7 +14,7 @@ use crate::counter::Counter;
 use rv_trace::{JobImage, Machine, PartialRun, SpareBus, machine_at_reusing};
 use std::alloc::{AllocError, Global};
 
-/// The counts of some runs, and what the next run can use again: the decode cache and the indices of counts.
+/// The counts of some runs of one image. The decode cache and the indices of the counts are reused from run to run.
 #[derive(Drop)]
 pub(crate) struct RunsCounter {
     pub(crate) counter: Counter,
@@ -31,8 +31,8 @@ impl RunsCounter {
         Ok(RunsCounter { counter, runs: 0 })
     }
 
-    /// Counts the run of a job within its budget, and returns the machine after all its steps, with their number; `None` if the job is
-    /// refused. Reuses the memory of the last run.
+    /// Counts the run of a job within its budget. Returns the machine at the end of the run and the number of completed steps, or `None` if
+    /// the job is refused. Reuses the memory of the last run.
     pub(crate) fn count_job(
         &mut self,
         alloc: Global,
@@ -52,7 +52,7 @@ impl RunsCounter {
         Ok(Some(run))
     }
 
-    /// Counts a machine's run within a budget of steps, and returns the machine after all its steps, with their number.
+    /// Counts a machine's run within a budget of steps. Returns the machine at the end of the run and the number of completed steps.
     pub(crate) fn count_run(
         &mut self,
         machine: Machine,

@@ -17,7 +17,7 @@ pub(crate) struct StepCount {
     pub(crate) taken: bool,
 }
 
-/// Executes a machine's next instruction, whose encoding is `code`, and returns what the step adds to the counts.
+/// Executes a machine's next instruction, and returns what the step adds to the counts. `code` is the encoding at the machine's pc.
 pub(crate) fn count_step(machine: &mut Machine, code: Option<Code>) -> StepCount
     requires { code ≡ code_at (state_of machine.old).bus (state_of machine.old).pc }
     ensures { IsStepCount (state_of machine.old) result (state_of machine.new) }
@@ -38,7 +38,8 @@ pub(crate) fn count_step(machine: &mut Machine, code: Option<Code>) -> StepCount
     }
 }
 
-// Whether the encoding at `pc` is a conditional branch and `next`, where the run continued, is not the next address.
+// Whether a completed step from `pc` to `next` is a taken branch: the encoding at `pc` is a conditional branch, and `next` is not the
+// address after it.
 fn is_taken_code(code: Option<Code>, pc: u32, next: u32) -> bool
     ensures { result ≡ is_taken_code code pc next }
 {
@@ -75,7 +76,8 @@ pub(crate) fn is_fence(op: Op) -> bool
     matches!(op, Op::FenceI)
 }
 
-/// Whether an instruction can complete, always continues at the next address then, and does not make stored code executable.
+/// Whether an instruction, when it completes, always continues at the address after it, and is not FENCE.I. Instructions that never
+/// complete are not among them.
 pub(crate) fn is_straight(op: Op) -> bool
     ensures { result ≡ is_straight op }
 {

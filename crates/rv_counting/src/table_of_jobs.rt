@@ -28,8 +28,9 @@ use rv_trace::{JobImage, PartialRun, Plan, SpareBus, image_bytes, image_of_bytes
 use sha2::{Digest, Sha256};
 use std::alloc::{AllocError, Global};
 
-/// Runs each job at some indices once more, whose images are the same file, and returns the table of the runs; a refused job counts as no
-/// run. Takes longer than one run of each job, and memory for each executed address. Reuses the memory of the last run.
+/// Runs the jobs at these indices once more, and returns the table of their runs; a refused job does not count as a run. All of the jobs
+/// must name the same image file. Takes longer than running the jobs once, and memory for each executed address. Reuses the memory of the
+/// last run.
 pub(crate) fn table_of_jobs_at(
     alloc: Global,
     plan: &Plan,
@@ -52,7 +53,7 @@ pub(crate) fn table_of_jobs_at(
     table_of_counter(alloc, plan, indices, counter)
 }
 
-/// Returns the table of the jobs at some indices, whose images are the same file, from the counts of their runs.
+/// Returns the table of the jobs at these indices from the counts of their runs. All of the jobs must name the same image file.
 pub(crate) fn table_of_counter(
     alloc: Global,
     plan: &Plan,
@@ -76,7 +77,8 @@ pub(crate) fn table_of_counter(
     table_of_runs(alloc, path, bytes, counter)
 }
 
-/// Counts the run of the job at an index, and returns the machine after all its steps; `None` if the job is refused.
+/// Counts the run of the job at an index. Returns the machine at the end of the run and the number of completed steps, or `None` if the job
+/// is refused.
 pub(crate) fn count_job_at(
     alloc: Global,
     plan: &Plan,
@@ -114,7 +116,7 @@ pub fn empty_table(alloc: Global) -> CountTable
     }
 }
 
-// Returns the table of some runs of the image with this path and these bytes.
+// Returns the table of the runs that `counter` has counted, of the image with this path and these bytes.
 fn table_of_runs(
     alloc: Global,
     path: &str,
@@ -174,7 +176,7 @@ fn copy_of(alloc: Global, bytes: &[u8]) -> Result<Bytes, AllocError>
     Ok(Bytes::new(copy))
 }
 
-/// Returns a text in the form that a table holds: printable UTF-8, without line feeds.
+/// Returns a text as a table holds it: printable UTF-8 without line feeds.
 pub fn shown_text(alloc: Global, text: &[u8]) -> Result<Text, AllocError>
     ensures value { IfOk result (λ shown. shown ≡ printable_text text.now) }
     ensures text { IfOk result IsUtf8 }

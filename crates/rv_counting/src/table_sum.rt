@@ -1,4 +1,4 @@
-//! The sum of the tables of jobs, as a run delivers them.
+//! The sum of the tables of jobs, added in the order in which a run delivers them.
 
 ghost use Rattle.std.specs.Prelude.{◌≡◌, ◌∷◌, ◌++◌, [], List, None, is_some, true};
 ghost use Rattle.rv_count_tables.specs.Sum.{no_counts};
@@ -27,7 +27,7 @@ pub trait HasTable {
         ensures sound { IsValidTable (table self.now) };
 }
 
-/// A listener that adds the tables of the results which it receives, up to the first that has no sum with those before it.
+/// A listener that adds the tables of the results that it receives. It stops at the first table that cannot be added to the sum.
 #[derive(Drop)]
 pub struct TableSum {
     alloc: Global,
@@ -65,7 +65,7 @@ impl TableSum {
         self.failed.is_some()
     }
 
-    /// Returns the sum of the tables, or why one of them could not be added.
+    /// Returns the sum of the tables, or the error if one of them could not be added.
     pub fn into_sum(self) -> Result<CountTable, SumError>
         ensures { result ≡ sum_or_error self.sum self.failed }
     {
@@ -75,7 +75,7 @@ impl TableSum {
         }
     }
 
-    // Adds a table to the sum, and returns whether the run continues: not if the two have no sum.
+    // Adds a table to the sum. Returns `Stop` if the two have no sum.
     fn add(&mut self, table: &CountTable) -> Flow
         requires goes { is_some self.old.failed ≡ true → ⊥ }
         requires valid { IsValidTable table.now }

@@ -1,4 +1,4 @@
-//! Tests of counts, using what `rv_counting` exports: small programs whose counts were found by hand, and lists of jobs.
+//! Tests of `rv_counting`: small programs whose counts were determined by hand, and lists of jobs.
 #![tactic(auto)]
 
 #[cfg(test)]

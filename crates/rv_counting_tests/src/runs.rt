@@ -6,8 +6,9 @@ use std::test::Fail;
 
 const BASE: u32 = 0x8000_0000;
 
-// Each program starts at 80000000, and `X` is the exit call. Counts were found by hand: address, how often executed, how often taken. An
-// instruction that ends the run counts as executed, except for fetch faults. label | instruction set | budget | program | counts.
+// Each program starts at 80000000, and `X` is the exit call. Counts were determined by hand: address, how often the instruction was
+// executed, how often its branch was taken. An instruction that ends the run counts as executed, unless it could not be fetched. label |
+// instruction set | budget | program | counts.
 const RUNS: &str = "\
 straight line, and the exit call | imc | 9 | 00500513 X | 80000000 1 0, 80000004 1 0, 80000008 1 0
 loop of three rounds | imc | 99 | 00300293 fff28293 fe029ee3 X | \
@@ -65,7 +66,7 @@ fn machine_of(alloc: Global, isa: Isa, program: &str) -> Result<Machine, Fail> {
     Ok(Machine::new(alloc, bus, BASE, isa)?)
 }
 
-// Returns the counts of a run within a budget, in the form that a row has.
+// Returns the counts of a run within a budget, as a row writes them.
 fn counts_text(alloc: Global, machine: Machine, budget: u32) -> Result<String, AllocError> {
     let mut text = String::new(alloc);
     let addresses = count_run(alloc, machine, budget)?;
@@ -77,7 +78,7 @@ fn counts_text(alloc: Global, machine: Machine, budget: u32) -> Result<String, A
     Ok(text)
 }
 
-// Checks that the run described in a row has the counts in the row.
+// Checks that the run that a row describes has the counts of the row.
 fn check(alloc: Global, row: &str) -> Result<(), Fail> {
     let isa = if cell_of(row, 1) == "im" {
         Isa::Im
@@ -93,7 +94,7 @@ fn check(alloc: Global, row: &str) -> Result<(), Fail> {
     )
 }
 
-// Runs have the counts that were found by hand.
+// Runs have the counts that were determined by hand.
 #[test]
 fn runs_are_counted(rt: HostRuntime) -> Result<(), Fail> {
     check_line_count(RUNS, 26)?;

@@ -1,4 +1,4 @@
-//! Tables of the jobs of a list, made by one thread and by several.
+//! Tables of counts of the jobs of a list, made by one thread and by several.
 ghost use Rattle.std.specs.Prelude.{◌<◌, ◌≤◌, IfOk, None};
 ghost use Rattle.std.specs.List.Sorted.{IsStrictlyIncreasing};
 ghost use Rattle.rv_counting.specs.JobIndices.{AreJobIndices};
@@ -11,8 +11,8 @@ use std::sync::Wait;
 use std::test::Fail;
 use std::thread::Threads;
 
-/// Files by path: three of one image, which ends with the exit call, one image with a loop of three rounds, and one file that is not an
-/// image.
+/// A store with three files of one image, which exits at once, one file of an image with a loop of three rounds, and one file that is not
+/// an image.
 #[derive(Drop)]
 struct Files {
     unreadable_count: u64,
@@ -23,7 +23,7 @@ impl Store for Files {
 
     ghost fault_count = { λ s. s.unreadable_count };
 
-    // Returns the bytes of the file at a path, or an error for a path without a file.
+    // Returns the bytes of the file at a path; an error if there is none.
     fn read(&mut self, alloc: Global, path: &str) -> Result<Vec<u8>, ReadError> {
         let text = match path {
             "a" | "b" | "line\nfeed" => "one",
@@ -40,7 +40,7 @@ impl Store for Files {
         }
     }
 
-    // Returns how many reads found a file unreadable.
+    // Returns how many reads failed.
     fn faults(&self) -> u64 {
         self.unreadable_count
     }
@@ -55,7 +55,7 @@ const LIST: &str = "job = [
 { name = 'n5', image = 'loop', budget = 3, same_as = 'n0', region = [{ base = 0x80000000, size = 4096 }] },
 { name = 'n6', image = \"line\\nfeed\", budget = 2, region = [{ base = 0x80000000, size = 4096 }] }]";
 
-// A selection of the jobs | the text of their table, with a slash for each line feed. The digests are those of `sha256sum`.
+// The selected jobs | the text of their table of counts, with a slash for each line feed. The digests were computed by `sha256sum`.
 const TABLES: &str = "\
 ....... | rvcounts 1/done 0 0/
 ...xx.. | rvcounts 1/done 0 0/
@@ -67,7 +67,7 @@ xxxxxxx | rvcounts 1/image 3d532673a6769bd4f209aaf85d6b5ee537f98383bacb4bda774fc
     80000004 4 0/80000008 4 3/8000000c 1 0/80000010 1 0/done 2 5/
 ";
 
-// The jobs of a list of one image, and the text of their table.
+// The number of jobs of a list of one image, the selection of all of them, and the text of their table of counts.
 const JOBS_OF_ONE_IMAGE: usize = 24;
 
 const ALL_OF_ONE_IMAGE: &str = "xxxxxxxxxxxxxxxxxxxxxxxx";
@@ -76,7 +76,7 @@ const TABLE_OF_ONE_IMAGE: &str =
     "rvcounts 1/image d24fffbfb7fd2907c5e8ad3a9c8089351ae371ea3c79687b9539f1d1708ee183 loop/80000000 24 0/\
     80000004 48 0/80000008 48 36/8000000c 12 0/80000010 12 0/done 1 24/";
 
-// Returns the selection that `choice` describes with one letter for each job: `x` selects it.
+// Returns the selection in `choice`, which has one letter for each job: `x` if it is selected.
 fn selection_of(alloc: Global, choice: &str) -> Result<Vec<bool>, AllocError> {
     let mut selection = Vec::new(alloc);
     for mark in choice.bytes() {
@@ -97,7 +97,7 @@ fn selected_indices_of(alloc: Global, plan: &Plan, choice: &str) -> Result<Vec<u
     Ok(selected_indices(alloc, selection.as_slice())?)
 }
 
-// Returns the text of the table of the selected jobs, computed by `workers` threads, with a slash for each line feed.
+// Returns the text of the table of counts of the selected jobs, made by `workers` threads, with a slash for each line feed.
 fn counts_text<R: Threads + Wait + Sync>(
     rt: &R,
     alloc: Global,
@@ -118,7 +118,7 @@ fn counts_text<R: Threads + Wait + Sync>(
     Ok(joined)
 }
 
-// Checks the table of a row, computed by one thread and by three.
+// Checks the table of counts of a row, made by one thread and by three.
 fn check<R: Threads + Wait + Sync>(
     rt: &R,
     alloc: Global,
@@ -132,7 +132,7 @@ fn check<R: Threads + Wait + Sync>(
     Ok(())
 }
 
-// The table of each selection of jobs is the expected one, whether one thread or three compute it.
+// Each selection of jobs has the expected table of counts, whether one thread or three make it.
 #[test]
 fn jobs_are_counted(rt: HostRuntime) -> Result<(), Fail> {
     let alloc = rt.alloc();
@@ -150,7 +150,7 @@ fn jobs_are_counted(rt: HostRuntime) -> Result<(), Fail> {
     Ok(())
 }
 
-// Returns a list of jobs of one image, every other of which ends within the loop.
+// Returns a list of jobs of one image; every other job ends within the loop.
 fn list_of_one_image(alloc: Global) -> Result<String, AllocError> {
     let region = "[{ base = 0x80000000, size = 4096 }]";
     let mut list = String::new(alloc);
@@ -164,7 +164,7 @@ fn list_of_one_image(alloc: Global) -> Result<String, AllocError> {
     Ok(list)
 }
 
-// The table of many jobs of one image is the expected one, whether one thread or three compute it.
+// Many jobs of one image have the expected table of counts, whether one thread or three make it.
 #[test]
 fn jobs_of_one_image_are_counted_together(rt: HostRuntime) -> Result<(), Fail> {
     let alloc = rt.alloc();

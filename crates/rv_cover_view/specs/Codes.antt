@@ -1,4 +1,4 @@
--- The encodings in the bytes of a function, one after another from the first byte on.
+-- The encodings in the bytes of a function, each directly after the one before it.
 use Rattle.std.specs.Prelude.{◌+◌, ◌*◌, ◌%◌, ◌==◌, ℕ, zero, suc, if◌then◌else◌, List, [], ◌∷◌, Option, Some, None, drop, length, option_and_then, option_map}
 use Rattle.std.specs.Option.{option_map_or}
 use Rattle.rv_elf.specs.Functions.{FunctionView}
@@ -29,13 +29,13 @@ abbrev pub AddressedCode : Type 0
 AddressedCode = ℕ × Code
 
 -- the first `n` encodings in the bytes, or all if there are fewer, each with its address; the first one is at `address`, and addresses wrap
--- around as a pc does
+-- around modulo 2^32, as the pc does
 unfoldable pub codes_from : ℕ → ℕ → List ℕ → List AddressedCode
 codes_from zero address bytes = []
 codes_from (suc n) address bytes = option_map_or
     (λ code. (address, code) ∷ codes_from n ((address + size_of_code code) % 0x1_0000_0000) (drop (size_of_code code) bytes))
     (first_code bytes) []
 
--- all encodings of a function; each has at least one byte
+-- all encodings in the code of a function, each with its address
 abbrev pub codes_of : FunctionView → List AddressedCode
 codes_of f = codes_from (length (bytes_of f)) (address_of f) (bytes_of f)

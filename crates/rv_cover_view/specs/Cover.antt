@@ -23,7 +23,7 @@ never_run counts fs = filter (λ f. not (has_run counts f)) fs
 
 -- ---- an encoding with its address
 
--- whether RV32IMC has an instruction for the encoding
+-- whether the encoding is an instruction of RV32IMC
 abbrev pub is_instruction : AddressedCode → Bool
 is_instruction encoding = is_some (instr_of encoding.1)
 
@@ -31,7 +31,7 @@ is_instruction encoding = is_some (instr_of encoding.1)
 abbrev pub was_executed : List AddressCounts → AddressedCode → Bool
 was_executed counts encoding = nat_lt 0 (executed_at encoding.0 counts)
 
--- whether RV32IMC has an instruction for the encoding and an instruction was executed at its address
+-- whether the encoding is an instruction of RV32IMC and was executed
 abbrev pub is_executed_instruction : List AddressCounts → AddressedCode → Bool
 is_executed_instruction counts encoding = is_instruction encoding && was_executed counts encoding
 
@@ -72,7 +72,7 @@ totals_of counts fs = record {
   code = totals_of_codes counts (flat_map codes_of fs);
 }
 
--- ---- counts and lines agree
+-- ---- functions that were not executed
 
 -- no instruction was executed at the function's addresses
 abbrev pub WasNotExecuted : List AddressCounts → FunctionView → Type 0

@@ -13,7 +13,7 @@ csv_header = codes "image,functions,functions_run,instructions,instructions_run,
 abbrev pub is_special : ℕ → Bool
 is_special byte = (byte == 44) || ((byte == 34) || ((byte == 10) || (byte == 13)))
 
--- a byte of a quoted field, or two quotes for a quote
+-- a byte of a quoted field; a quote is written twice
 abbrev pub doubled_quote : ℕ → List ℕ
 doubled_quote byte = if byte == 34 then 34 ∷ 34 ∷ [] else byte ∷ []
 

@@ -8,7 +8,7 @@ use Rattle.rv_cover_view.specs.Functions.{IsEachOnce, view_of_function}
 use Rattle.rv_cover_view.specs.declared.image_cover.ImageCover.{ImageCover}
 
 -- `cover` is the coverage of the image with this path: its totals, and its functions that never ran; of several functions at one address,
--- only the first counts
+-- only the first is considered
 pub record IsCoverOf (path : List ℕ) (image : Image) (file : List ℕ) (counts : List AddressCounts) (cover : ImageCover) : Type 0 where
   pub found : List FunctionView
   pub once : IsEachOnce (functions image file) found

@@ -17,7 +17,7 @@ pub record ImageFileView : Type 0 where
   pub bytes : List ℕ
   pub image : Image
 
--- the image of a job, or `None` if its file was not read or is not an image
+-- the image of a job, or `None` if its file was not read or is not a valid image
 abbrev pub image_of_job : List PathResult → Job → Option ImageFileView
 image_of_job answers job = option_and_then (λ bytes. option_map (λ image. record { path = job.image; bytes = bytes; image = image })
     (image_if_read job.isa (Some bytes))) (image_bytes answers job)
@@ -35,16 +35,16 @@ with_image_of answers images job = option_map_or (with_image images) (image_of_j
 abbrev pub images_of : List PathResult → List Job → List ImageFileView
 images_of answers jobs = fold (with_image_of answers) [] jobs
 
--- no image file is larger than a file that is read may be
+-- every image file that was read is within the limit on the size of files
 abbrev pub AreSmall : List PathResult → Type 0
 AreSmall answers = (job : Job) → IfSome (image_bytes answers job) (λ bytes. length bytes ≤ max_file_size)
 
--- ---- images as the code has them
+-- ---- conversion of the code's types
 
--- an image file of the code as contracts see it
+-- an image file, converted from the type of the code to the record that contracts use
 abbrev pub image_of_file : ImageFile → ImageFileView
 image_of_file file = record { path = file.path.now; bytes = file.bytes.now; image = file.image }
 
--- the image files of the code as contracts see them, in order
+-- the image files, converted from the type of the code to the records that contracts use, in order
 abbrev pub images_of_files : List ImageFile → List ImageFileView
 images_of_files files = map image_of_file files

@@ -9,7 +9,7 @@ use rv_elf::{Function, Image, functions};
 use std::alloc::{AllocError, Global};
 
 /// Returns the functions of an image, sorted by address. Of several functions at one address, only the first in the symbol table is
-/// returned. A file has at most 16,777,216 bytes, so the totals fit in 64 bits.
+/// returned. Their code has fewer than 2^64 bytes in all, since a file has at most 16,777,216 bytes.
 pub fn functions_by_address<'a>(
     alloc: Global,
     image: &Image,

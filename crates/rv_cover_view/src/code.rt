@@ -10,7 +10,7 @@ use crate::totals::CodeTotals;
 use rv_count_tables::{AddressCounts, counts_at};
 use rv_counting::{Code, code_length, instr_of, is_branch, is_long};
 
-/// Returns the coverage of the encodings in `code`, whose first byte is at `address`.
+/// Returns the coverage of the encodings in `code`, one after another; `address` is the address of its first byte.
 pub(crate) fn totals_of_code(address: u32, code: &[u8], counts: &[AddressCounts]) -> CodeTotals
     requires { increase_from 0 counts.now ≡ true }
     ensures { result ≡ totals_of_codes counts.now (codes_from (length code.now) address code.now) }
@@ -26,7 +26,7 @@ pub(crate) fn totals_of_code(address: u32, code: &[u8], counts: &[AddressCounts]
     totals
 }
 
-// Returns the coverage of one encoding: each total is 0 or 1.
+// Returns the coverage of one encoding: each total is 0 or 1, and all are 0 if the encoding is illegal.
 fn totals_at(address: u32, code: Code, counts: &[AddressCounts]) -> CodeTotals
     requires { increase_from 0 counts.now ≡ true }
     ensures { result ≡ totals_of_codes counts.now ((address, code) ∷ []) }

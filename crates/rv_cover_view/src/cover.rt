@@ -14,7 +14,7 @@ use rv_elf::Function;
 use std::alloc::{AllocError, Global};
 
 /// Returns the coverage of functions: how many ran, and how many of their instructions and conditional branches were executed. Takes one
-/// search among the counts for each function and each encoding.
+/// binary search of the counts for each function and each encoding.
 pub fn cover_of_functions(functions: &[Function<'_>], counts: &[AddressCounts]) -> CoverageTotals
     requires increasing { increase_from 0 counts.now ≡ true }
     requires fits { code_bytes (map view_of_function functions.now) < 2 ^ 64 }
@@ -27,7 +27,7 @@ pub fn cover_of_functions(functions: &[Function<'_>], counts: &[AddressCounts]) 
     }
 }
 
-/// Returns the functions that never ran, in their order: no instruction was executed at any of their addresses.
+/// Returns the functions that never ran, in their order. A function ran if an instruction was executed at any of its addresses.
 pub fn never_run<'a>(
     alloc: Global,
     functions: &[Function<'a>],

@@ -1,4 +1,4 @@
-//! The coverage of images for tools: comma-separated values (RFC 4180), each line ended by a line feed.
+//! Coverage as comma-separated values (RFC 4180), for tools. Each line ends with a line feed.
 
 ghost use Rattle.std.specs.Prelude.{◌≡◌, ◌++◌, OnOk};
 ghost use Rattle.std.specs.List.{list_any};

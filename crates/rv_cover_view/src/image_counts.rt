@@ -1,4 +1,4 @@
-//! A table's counts of images.
+//! The counts that a table has of images.
 
 ghost use Rattle.std.specs.Prelude.{◌≡◌, IfOk, option_map, true};
 ghost use Rattle.std.specs.List.{list_any};
@@ -13,8 +13,8 @@ use rv_count_tables::{AddressCounts, CountTable, ImageCounts, push_printable_tex
 use sha2::{Digest, Sha256};
 use std::alloc::{AllocError, Global};
 
-/// Returns the path of the first of these images that the table does not have, although it has another image with the path; or `None` if
-/// there is no such image.
+/// Returns the path of the first of these images that differs from the table's: the table has another image with this path, and none with
+/// these bytes. Returns `None` if there is no such image.
 pub fn other_image<'a>(
     alloc: Global,
     table: &CountTable,
@@ -30,7 +30,7 @@ pub fn other_image<'a>(
     Ok(None)
 }
 
-// Whether a table does not have this image, although it has another image with its path.
+// Whether a table has another image with this image's path, and none with its bytes.
 fn has_other_image_at_path(
     alloc: Global,
     table: &CountTable,
@@ -46,7 +46,7 @@ fn has_other_image_at_path(
     Ok(has_path(table, path.as_slice()))
 }
 
-// Whether a table has the image with these bytes, which the digest identifies.
+// Whether a table has the image with these bytes, which is identified by its digest.
 fn has_digest_of(table: &CountTable, bytes: &[u8]) -> bool
     ensures { result ≡ list_any (is_of_digest (sha256 bytes.now)) table.now.images }
 {
@@ -65,7 +65,8 @@ fn has_path(table: &CountTable, path: &[u8]) -> bool
         .any(|entry| entry.path.as_str().as_bytes() == path)
 }
 
-/// Returns a table's counts of the image with these bytes, which the digest identifies, or no counts if it does not have the image.
+/// Returns a table's counts of the image with these bytes, which is identified by its digest. If the table does not have the image, there
+/// are no counts.
 pub(crate) fn counts_of<'t>(table: &'t CountTable, bytes: &[u8]) -> &'t [AddressCounts]
     requires { IsValidTable table.now }
     ensures counts { result.now ≡ counts_of table.now bytes.now }
@@ -77,7 +78,8 @@ pub(crate) fn counts_of<'t>(table: &'t CountTable, bytes: &[u8]) -> &'t [Address
     }
 }
 
-/// Returns a table's entry for the image with these bytes, which the digest identifies, or `None` if it does not have the image.
+/// Returns a table's entry for the image with these bytes, which is identified by its digest, or `None` if the table does not have the
+/// image.
 pub fn entry_of_image<'t>(table: &'t CountTable, bytes: &[u8]) -> Option<&'t ImageCounts>
     ensures { option_map (λ entry. entry.now) result ≡ entry_of_image table.now bytes.now }
 {

@@ -15,7 +15,7 @@ use std::alloc::{AllocError, Global};
 /// The coverage of an image.
 #[derive(Drop)]
 pub struct ImageCover<'a> {
-    /// The path of the image, which is shown.
+    /// The path by which the list names the image.
     pub path: &'a [u8],
     /// The totals of the image's functions, one for each address.
     pub totals: CoverageTotals,
@@ -23,8 +23,7 @@ pub struct ImageCover<'a> {
     pub never_run: Vec<Function<'a>>,
 }
 
-/// Returns the coverage of an image, given the bytes of its file and the counts of its addresses: its totals, and the functions that never
-/// ran.
+/// Returns the coverage of an image, given the bytes of its file and the counts of its addresses. `path` is the path to show.
 pub fn cover_of_image<'a>(
     alloc: Global,
     path: &'a [u8],

@@ -14,7 +14,7 @@ pub struct ImageFile<'a> {
     pub path: &'a str,
     pub bytes: &'a [u8],
     pub image: Image,
-    /// The instruction set that the image was read for.
+    /// The instruction set for which the file was parsed.
     pub isa: Isa,
     ghost read: { image_of isa bytes.now ≡ Ok image },
     ghost small: { length bytes.now ≤ max_file_size },

@@ -1,4 +1,4 @@
-//! The coverage report of images, from a table's counts.
+//! The coverage report of images.
 
 ghost use Rattle.std.specs.Prelude.{◌≡◌, ◌++◌, IfOk, List, OnOk, ℕ};
 ghost use Rattle.rv_count_tables.specs.Table.{IsValidTable};
@@ -13,7 +13,8 @@ use crate::text::{push_cover_header, push_image_line, push_never_run_line};
 use rv_count_tables::CountTable;
 use std::alloc::{AllocError, Global};
 
-/// Returns the coverage report of images by a table's counts: a header, and then each image as a CSV row or as lines for people.
+/// Returns the coverage report of images, according to a table's counts: a header, and then each image as a CSV row (if `csv` is true) or
+/// as lines for people.
 pub fn cover_text(
     alloc: Global,
     csv: bool,
@@ -42,7 +43,7 @@ fn push_header(text: &mut Vec<u8>, csv: bool) -> Result<(), AllocError>
     }
 }
 
-// Appends the coverage of an image by a table's counts: a CSV row if `csv` is true, or else lines for people.
+// Appends the coverage of an image, according to a table's counts: a CSV row if `csv` is true, or else lines for people.
 fn push_image(
     alloc: Global,
     text: &mut Vec<u8>,
@@ -60,8 +61,8 @@ fn push_image(
     push_image_cover(alloc, text, csv, &cover)
 }
 
-// Appends the coverage of an image: a CSV row if `csv` is true, or else a line with its totals, and a line with the functions that never
-// ran, if there are any.
+// Appends the coverage of an image: a CSV row if `csv` is true, or else a line with its totals and, if there are any, a line with the
+// functions that never ran.
 fn push_image_cover(
     alloc: Global,
     text: &mut Vec<u8>,

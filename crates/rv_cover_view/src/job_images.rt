@@ -13,8 +13,8 @@ use crate::image_file::ImageFile;
 use rv_counting::{Plan, image_bytes, image_of_bytes};
 use std::alloc::{AllocError, Global};
 
-/// Returns the images of the jobs at these indices, in order. Images with equal bytes are returned once, with the path that the first of
-/// their jobs gives.
+/// Returns the images of the jobs at these indices, in order. Of images with equal bytes only the first is returned, with the path in its
+/// job. Jobs whose file was not read or is not a valid image are left out.
 pub fn images_of_jobs<'a>(
     alloc: Global,
     plan: &'a Plan,
@@ -69,7 +69,7 @@ fn has_bytes(files: &[ImageFile<'_>], bytes: &[u8]) -> bool
     files.iter().any(|file| bytes == file.bytes)
 }
 
-// Returns the image of the job at an index, or `None` if its file was not read or is not an image.
+// Returns the image of the job at an index, or `None` if its file was not read or is not a valid image.
 fn image_at(alloc: Global, plan: &Plan, index: usize) -> Result<Option<ImageFile<'_>>, AllocError>
     requires within { index < length plan.now.jobs }
     requires small { AreSmall plan.now.results }

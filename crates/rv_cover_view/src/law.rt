@@ -1,4 +1,4 @@
-//! A law on the functions that never ran, with no code to run.
+//! A law on the functions that never ran. It is proved and has no code.
 
 ghost use Rattle.std.specs.Prelude.{◌↔◌, List};
 ghost use Rattle.std.specs.List.{Contains};

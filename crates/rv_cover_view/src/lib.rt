@@ -2,10 +2,10 @@
 //!
 //! [`functions_by_address`] returns the functions of an image, one for each address. [`cover_of_functions`] counts how many of them, of
 //! their instructions and of their conditional branches ran, and [`never_run`] returns those that never did: exactly those at whose
-//! addresses no instruction was executed ([`functions_never_run_were_not_executed`]). [`push_image_line`] and [`push_never_run_line`] format
-//! them, and [`push_csv_row`] writes the totals for tools. [`cover_of_image`] returns both for an image, and [`cover_text`] formats them
-//! for the images of jobs, which [`images_of_jobs`] returns. Other views of images share [`entry_of_image`], [`push_right_aligned`] and
-//! [`push_csv_field`].
+//! addresses no instruction was executed ([`functions_never_run_were_not_executed`]). [`push_image_line`] and [`push_never_run_line`]
+//! format the totals and these functions for people, and [`push_csv_row`] formats the totals for tools. [`cover_of_image`] returns totals
+//! and functions for an image, and [`cover_text`] formats them for the images of jobs, which [`images_of_jobs`] returns. Other views of
+//! images share [`entry_of_image`], [`push_right_aligned`] and [`push_csv_field`].
 #![tactic(auto)]
 
 mod by_address;

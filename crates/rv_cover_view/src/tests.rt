@@ -1,4 +1,4 @@
-//! Tests with functions counted by hand.
+//! Tests with functions whose coverage was counted by hand.
 
 use crate::{
     CodeTotals, CoverageTotals, cover_of_functions, each_address_once, never_run,
@@ -10,7 +10,7 @@ use std::alloc::{AllocError, Global};
 use std::rt::HostRuntime;
 use std::test::Fail;
 
-// A loop of three rounds, `c.nop`, a halfword of zeros, which is not an instruction, and the first half of a word.
+// A loop of three iterations, `c.nop`, a halfword of zeros, which is illegal, and the first half of a word.
 const LOOP: [u8; 18] = [
     0x93, 0x02, 0x30, 0x00, 0x93, 0x82, 0xf2, 0xff, 0xe3, 0x9e, 0x02, 0xfe, 0x01, 0x00, 0x00, 0x00,
     0x93, 0x02,
@@ -24,8 +24,8 @@ const BRANCHES: [u8; 14] = [
 // `ret`
 const RETURN: [u8; 2] = [0x82, 0x80];
 
-// Three rounds of the loop. Of the branches one was always taken, one never, one sometimes, and one was not executed. An instruction was
-// executed after the last function.
+// Three iterations of the loop. Of the branches, one was always taken, one never, one sometimes, and one was not executed. An instruction
+// was executed after the end of the last function.
 const COUNTS: [AddressCounts; 7] = [
     AddressCounts {
         address: 0x8000_0000,

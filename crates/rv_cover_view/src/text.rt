@@ -1,4 +1,4 @@
-//! The coverage table.
+//! The coverage table for people.
 
 ghost use Rattle.std.specs.Prelude.{◌≡◌, ◌++◌, OnOk, map, replicate};
 ghost use Rattle.rv_cover_view.specs.Functions.{view_of_function};

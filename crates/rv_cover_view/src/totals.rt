@@ -10,14 +10,14 @@ pub struct CoverageTotals {
     pub functions: u64,
     /// The number of functions in which an instruction was executed.
     pub functions_run: u64,
-    /// The totals of their code. Code shared by two functions counts twice.
+    /// The totals of their code. Code that belongs to two functions counts twice.
     pub code: CodeTotals,
 }
 
 /// How many instructions and conditional branches there are, and how many of them were executed.
 #[derive(Clone, Copy, Debug, PartialEq)]
 pub struct CodeTotals {
-    /// The number of encodings for which RV32IMC has an instruction.
+    /// The number of encodings that are instructions of RV32IMC.
     pub instructions: u64,
     /// The number of executed instructions.
     pub instructions_run: u64,

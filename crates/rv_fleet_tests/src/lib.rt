@@ -1,7 +1,7 @@
-//! Tests of draws, of the cached outcomes of the last jobs, of fleets and of streams, using what `rv_fleet`, `rv_rows` and `rv_stream`
-//! export. They also test what no program shows of plans and of lists: which paths are read, in which order and how often, and where jobs
-//! begin in a text that is not TOML. Everything else in `rv_elf`, `rv_lists` and `rv_jobs` is tested by `checks/tables` on the built
-//! programs. The crate contains nothing else, so that no code is proved twice.
+//! Tests of draws, of cached outcomes, of fleets and of streams (`rv_fleet`, `rv_rows` and `rv_stream`), and of what no program shows of
+//! plans and lists: which paths are read, in which order and how often, and where jobs begin in a text that is not TOML. Everything else in
+//! `rv_elf`, `rv_lists` and `rv_jobs` is tested by `checks/tables` on the built programs. The tests have a crate of their own, so that no
+//! code is proved twice.
 #![tactic(auto)]
 
 #[cfg(test)]

@@ -1,10 +1,10 @@
-//! Where jobs begin in texts that are not TOML: those before the error are noted. No program requests them.
+//! Where jobs begin in texts that are not TOML: only jobs before the error are found. No program shows this.
 use rv_list_locations::job_line_numbers;
 use samples::check_equal;
 use std::alloc::{AllocError, Global};
 use std::test::Fail;
 
-// Texts, separated by lines with a bar; each is followed by ` = ` and the numbers of the lines on which its jobs begin.
+// Texts, separated by lines with a bar. Each is followed by ` = ` and the numbers of the lines on which its jobs begin.
 const TEXTS: &str = "\
 [[job]]
 = 3

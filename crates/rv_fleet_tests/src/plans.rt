@@ -1,4 +1,4 @@
-//! Plans for all jobs and for a choice: which paths are read, and what is kept for each job.
+//! Plans for all jobs and for selected jobs: which paths are read, and what is kept for each job.
 ghost use Rattle.std.specs.Prelude.{◌<◌, ◌≤◌, None, length};
 
 use rv_fleet::{JobList, Kept, Plan, What, gather, gather_jobs, read_jobs, selected_indices};
@@ -7,11 +7,11 @@ use samples::{cell_of, check_equal, check_line_count};
 use std::alloc::{AllocError, Global};
 use std::test::Fail;
 
-// The numbers of the first and the last error of lists.
+// The codes of the first and the last error in lists.
 const _: () = prove!(What::NotToml as u8 == 1 && What::Misaligned as u8 == 18);
 
-/// A store with the files `a`, `b` and `r` of one byte and `A`, `B` and `C` of many, each filled with its own name, and a file `l` that is
-/// too long. It records the paths that were read.
+/// A store with the files `a`, `b` and `r` of one byte, the files `A`, `B` and `C` of many bytes, each of which is the name of the file,
+/// and a file `l` that is too long. It records the paths that are read.
 #[derive(Drop)]
 struct Files {
     log: String,
@@ -36,7 +36,7 @@ impl Store for Files {
 
     ghost fault_count = { λ s. s.unreadable_count };
 
-    // Records the path, and returns the bytes of the file at it, or an error for a path without a file.
+    // Records the path, and returns the bytes of the file; an error if there is none.
     fn read(&mut self, alloc: Global, path: &str) -> Result<Vec<u8>, ReadError> {
         if self.log.push_str(path).is_err() {
             return Err(ReadError::OutOfMemory);
@@ -53,13 +53,13 @@ impl Store for Files {
         vec![in alloc; letter; length].map_err(|_| ReadError::OutOfMemory)
     }
 
-    // Returns how many reads found a file unreadable.
+    // Returns how many reads failed.
     fn faults(&self) -> u64 {
         self.unreadable_count
     }
 }
 
-// Returns the selection that `choice` describes with one letter for each job: `x` selects it.
+// Returns the selection in `choice`, which has one letter for each job: `x` if it is selected.
 fn selection_of(alloc: Global, choice: &str) -> Result<Vec<bool>, AllocError> {
     let mut selection = Vec::new(alloc);
     for mark in choice.bytes() {
@@ -91,8 +91,7 @@ fn plan_of(alloc: Global, list: &str, choice: &str, store: &mut Files) -> Result
     plan_of_selection(alloc, jobs, &selection_of(alloc, choice)?, store)
 }
 
-// Appends what a plan has read at a path: `none`, the reason why there are no bytes, the only byte, or the number of bytes and the
-// last one.
+// Appends what a plan has for a path: `none`, why the file could not be read, its only byte, or the number of bytes and the last one.
 fn push_contents(text: &mut String, read: Option<&Kept>) -> Result<(), AllocError> {
     match read {
         Some(Kept::Content(bytes)) => push_bytes(text, bytes.as_slice()),
@@ -102,7 +101,7 @@ fn push_contents(text: &mut String, read: Option<&Kept>) -> Result<(), AllocErro
     }
 }
 
-// Appends the only byte of a file, or the number of its bytes and the last one.
+// Appends the only byte of a file; if there are more, their number and the last one.
 fn push_bytes(text: &mut String, bytes: &[u8]) -> Result<(), AllocError> {
     let (length, last) = (bytes.len(), bytes.last().copied().unwrap_or(0) as char);
     if length == 1 {
@@ -112,7 +111,7 @@ fn push_bytes(text: &mut String, bytes: &[u8]) -> Result<(), AllocError> {
     }
 }
 
-// Appends a job's name, and the results that the plan has for its image, its reference and its console.
+// Appends the name of a job, and what the plan has for its image, its golden signature and its golden console output.
 fn push_job(text: &mut String, plan: &Plan, index: usize) -> Result<(), AllocError>
     requires { index < length plan.now.jobs }
 {
@@ -124,7 +123,7 @@ fn push_job(text: &mut String, plan: &Plan, index: usize) -> Result<(), AllocErr
     push_contents(text, plan.console_reference(index))
 }
 
-// Returns the paths that were read, the number of unreadable files, and the results that the plan has for each job.
+// Returns the paths that were read, the number of failed reads, and what the plan has for each job.
 fn result_text(alloc: Global, plan: &Plan, store: &Files) -> Result<String, AllocError> {
     let (log, faults) = (store.log.as_str(), store.faults());
     let mut text = format!(in alloc; "'{log}' {faults} faults")?;
@@ -144,7 +143,7 @@ fn plan_text(alloc: Global, list: &str, choice: &str) -> Result<String, Fail> {
     Ok(result_text(alloc, &plan, &store)?)
 }
 
-// Checks for each line of a table that the plan of a list for the choice in the line is the plan in the line.
+// Checks that the list has the plan of each line of the table, for the choice in the line.
 fn check(alloc: Global, list: &str, table: &str, lines: usize) -> Result<(), Fail> {
     check_line_count(table, lines)?;
     for row in table.lines() {
@@ -154,7 +153,7 @@ fn check(alloc: Global, list: &str, table: &str, lines: usize) -> Result<(), Fai
     Ok(())
 }
 
-/// A list whose files are needed as images, references and consoles, some of them several times.
+/// A list whose files are images, golden signatures and golden console outputs, some of them of several jobs.
 const PATHS: &str = "job = [
 { name = 'n0', image = 'b', budget = 1, signature = ['s', 's'], expect_signature = 'r' },
 { name = 'n1', image = 'a', budget = 1, signature = ['s', 's'], expect_signature = 'b' },
@@ -164,7 +163,7 @@ const PATHS: &str = "job = [
 { name = 'n5', image = 'x', budget = 1, expect_console_file = 'a' },
 { name = 'n6', image = 'y', budget = 1, signature = ['s', 's'], expect_signature = 'z', expect_console_file = 'l' }]";
 
-/// The selected jobs | the paths that are read, the number of faults, and what is kept for each job of `PATHS`.
+/// The selected jobs | the paths that are read, the number of failed reads, and what is kept for each job of `PATHS`.
 const ALL_PATHS: &str = "\
 all | 'bralxyz' 8 faults: n0 b r none, n1 a b none, n2 b none none, n3 long unreadable none, \
     n4 r long none, n5 unreadable none a, n6 unreadable unreadable long";
@@ -177,12 +176,12 @@ const LONG_PATHS: &str = "job = [
 { name = 'n3', image = 'B', budget = 1, signature = ['s', 's'], expect_signature = 'B' },
 { name = 'n4', image = 'C', budget = 1 }]";
 
-/// The selected jobs | the paths that are read, the number of faults, and what is kept for each job of `LONG_PATHS`.
+/// The selected jobs | the paths that are read, the number of failed reads, and what is kept for each job of `LONG_PATHS`.
 const LONG_KEPT: &str = "\
 all | 'ACB' 5 faults: n0 65537A 16777216C none, n1 16777216C 65537A none, n2 65537A 1000000B none, \
     n3 1000000B 1000000B none, n4 16777216C none none";
 
-/// A list of five jobs, two of which name another job.
+/// A list of five jobs, two of which are compared with another job.
 const LIST: &str = "job = [
 { name = 'n0', image = 'b', budget = 1, signature = ['s', 's'], expect_signature = 'r' },
 { name = 'n1', image = 'a', budget = 1, expect_console_file = 'x' },
@@ -190,8 +189,8 @@ const LIST: &str = "job = [
 { name = 'n3', image = 'y', budget = 1, same_as = 'n2' },
 { name = 'n4', image = 'b', budget = 1, signature = ['s', 's'], expect_signature = 'a' }]";
 
-// The selected jobs | the paths that are read, the number of faults, and what is kept of each job's image, reference and console. `x.x.x`
-// and `.x.x.` are the two shards of the list.
+// The selected jobs | the paths that are read, the number of failed reads, and what is kept of each job's image, golden signature and
+// golden console output. `x.x.x` and `.x.x.` are the two shards of the list.
 const CHOICES: &str = "\
 ..... | '' 5 faults: n0 unreadable unreadable none, n1 unreadable none unreadable, n2 unreadable none none, \
     n3 unreadable none none, n4 unreadable unreadable none
@@ -210,7 +209,7 @@ x.x.x | 'brla' 5 faults: n0 b r none, n1 a none unreadable, n2 long none none, \
 xxxxx | 'braxly' 7 faults: n0 b r none, n1 a none unreadable, n2 long none none, \
     n3 unreadable none none, n4 b a none";
 
-// A plan reads each path that the selected jobs need exactly once, and has its bytes for every job that uses it.
+// A plan reads each path that the selected jobs need exactly once, and keeps the bytes for every job that uses it.
 #[test]
 fn paths_are_read_once_where_they_are_needed(rt: HostRuntime) -> Result<(), Fail> {
     check(rt.alloc(), PATHS, ALL_PATHS, 1)?;

@@ -1,4 +1,4 @@
-//! Draws, cached outcomes, fleets and streams, by the lines of tables: the setup, the requests and, in the last cell, the expected results.
+//! Draws, cached outcomes, fleets and streams, by the lines of tables: the setup, the requests and, in the last cell, the expected result.
 ghost use Rattle.std.specs.Prelude.{◌<◌, ◌≤◌, IfOk, None};
 ghost use Rattle.std.specs.List.Sorted.{IsStrictlyIncreasing};
 ghost use Rattle.rv_fleet.specs.JobIndices.{AreJobIndices};
@@ -18,8 +18,8 @@ mod recent;
 mod streams;
 mod workers;
 
-// Returns the description of the sample image at a path: with a signature of 16,000 words (`most-words`) or of one word more
-// (`more-words`), and for any other path an image that exits with code 5 after two steps.
+// Returns a line that describes the sample image at a path: with a signature of 16,000 words for `most-words`, of one word more for
+// `more-words`, and for any other path an image that exits with code 5 after two steps.
 fn sample_of(path: &str) -> &'static str {
     match path {
         "most-words" => "sign 168=8000fa28",
@@ -45,7 +45,7 @@ impl Store for Samples {
         }
     }
 
-    // Returns 0: every file is readable.
+    // Returns 0: no read fails.
     fn faults(&self) -> u64 {
         0
     }
@@ -83,7 +83,7 @@ fn last_cell(line: &str) -> &str {
     line.rsplit_once('|').unwrap_or(("", line)).1.trim()
 }
 
-// Returns the selection that `choice` describes with one letter for each job: `x` selects it.
+// Returns the selection in `choice`, which has one letter for each job: `x` if it is selected.
 fn selection_of(alloc: Global, choice: &str) -> Result<Vec<bool>, AllocError> {
     let mut selection = Vec::new(alloc);
     for mark in choice.bytes() {
@@ -97,7 +97,7 @@ fn number_in(line: &str, index: usize) -> u64 {
     cell_of(line, index).parse::<u64>().unwrap_or(0)
 }
 
-// Returns the number of workers and the number of jobs in a chunk, as given in a line.
+// Returns the number of workers, and how many jobs a worker claims at once, as given in a line.
 fn workers_and_group_of(line: &str) -> (u32, u32)
     ensures workers { (0 < result.0) × (result.0 ≤ 64) }
     ensures group { (0 < result.1) × (result.1 ≤ 4096) }
@@ -133,7 +133,7 @@ enum Table {
     Workers,
 }
 
-// Returns the result for a line of this table, as text.
+// Returns the result of a line of this table, as text.
 fn result_text<R: Threads + Wait + Sync>(
     rt: &R,
     alloc: Global,
@@ -151,7 +151,7 @@ fn result_text<R: Threads + Wait + Sync>(
     }
 }
 
-// Checks that a table has `count` lines, and that each has the expected result in its last cell.
+// Checks that a table has `count` lines, each with the result in its last cell.
 fn check_table<R: Threads + Wait + Sync>(
     rt: &R,
     alloc: Global,

@@ -1,4 +1,4 @@
--- The session over the run of a plan's job.
+-- The gdb session of a job's run.
 use Rattle.std.specs.Prelude.{◌≡◌, ℕ, List, Some, Ok}
 use Rattle.rv_session.specs.Starts.{start_of}
 use Rattle.rv_session.specs.declared_start.Start.{Start}
@@ -9,8 +9,8 @@ use Rattle.rv_session.specs.Sessions.{at_start}
 use Rattle.rv_session.specs.declared.session.Session.{Session}
 use Rattle.rv_trace.specs.Trace.{image_bytes}
 
--- the session is at the start of the run of a job that is not refused, before gdb has sent anything; `path` is the path by which gdb knows
--- the job's image
+-- the session is at the start of the run of a job that is not refused, before gdb has sent anything; `path` is the path of the job's image
+-- that gdb is given
 pub record IsSessionOf (results : List PathResult) (job : Job) (path : List ℕ) (session : Session) : Type 0 where
   pub start : Start
   pub start_is : start_state_in results job ≡ Ok (start_of start)

@@ -14,7 +14,7 @@ pub record IsChunkRead (before after : Option (List ℕ)) (chunk : List ℕ) : T
   pub at_most_max : length chunk ≤ max_read
   pub ended : chunk ≡ [] → IsAtEnd after
 
--- the last of these bytes come from one read, which began while the session was open
+-- the last of the received bytes are those of one read, which began while the session was still open
 pub record IsLastReadOpen (end_text : List ℕ) (session : Session) (received : List ℕ) : Type 0 where
   pub earlier : List ℕ
   pub last : List ℕ
@@ -40,13 +40,13 @@ pub record IsServed (end_text : List ℕ) (session : Session) (before after old 
   pub read : Consumes before after received
   -- no read began after the session was over
   pub read_while_open : IsReadWhileOpen end_text session received
-  -- whether the end of the input may have interrupted a move; otherwise only the byte 0x03 did
+  -- whether the end of the input may have interrupted a move; if not, only the byte 0x03 did
   pub may_end : Bool
   pub ended : may_end ≡ true → IsAtEnd after
   pub responded : IsReceived end_text may_end session received replies next
   pub no_pending_move : next.requested ≡ None
   pub written : Appends old new replies
 
--- the session is over, or gdb sends nothing more
+-- the session is over, or the input is at its end
 abbrev pub IsEnded : Session → Option (List ℕ) → Type 0
 IsEnded session after = (session.is_over ≡ true) ⊎ IsAtEnd after

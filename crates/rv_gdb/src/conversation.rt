@@ -1,4 +1,4 @@
-//! What gdb sends, and the replies to it.
+//! A conversation with gdb: receives its bytes, and writes the session's replies.
 
 ghost use Rattle.std.specs.Prelude.{◌≡◌, ◌≢◌, ◌<◌, ◌==◌, IfErr, IfOk, None, OnOk, is_some, length, option_map, true};
 ghost use Rattle.std.specs.Io.KnownBytes.{Appends};
@@ -22,7 +22,7 @@ use std::thread::{Threads, join_mut};
 pub enum SessionError {
     /// An allocation failed.
     OutOfMemory,
-    /// A read failed, for this reason.
+    /// A read failed; this is the kind of its error.
     ReadFailed(ErrorKind),
     /// A write failed.
     ReplyWriteFailed,
@@ -39,21 +39,21 @@ impl From<AllocError> for SessionError {
     }
 }
 
-// The reply to a move for which there is not enough memory.
+// The reply to a move that ran out of memory.
 const NO_MEMORY: &str = "$E.out of memory#79";
 
-/// What a session needs to respond to gdb.
+/// What is needed to reply to gdb, beside the session.
 #[derive(Drop)]
 pub struct SessionContext<'a, R, E> {
     pub rt: &'a R,
     pub alloc: Global,
-    /// Provides the text about the end of the session's run.
+    /// Makes the text that says how the run ended.
     pub end: &'a E,
 }
 
 /// Feeds the bytes of a reader to a session, and writes the session's replies, until gdb ends the session or the reader is at its end. No
-/// read begins once the session is over. If every received byte has been used when a move starts, another thread reads ahead during the
-/// move, and only 0x03 or the end of the bytes interrupts the move.
+/// read begins once the session is over. If all bytes received so far were handled when a move starts, another thread reads ahead during
+/// the move, and the byte 0x03 or the end of the input interrupts the move.
 pub fn serve<R: Threads, E: EndText, I: Read + Send, O: Sink>(
     context: &SessionContext<'_, R, E>,
     session: &mut Session,
@@ -82,11 +82,11 @@ pub fn serve<R: Threads, E: EndText, I: Read + Send, O: Sink>(
             None => return Ok(()),
         }
     }
-    // No program performs this many reads.
+    // Not reached: no program makes 2^64 reads.
     Err(SessionError::ReadFailed(ErrorKind::TimedOut))
 }
 
-// Feeds a chunk of bytes to the session, and writes the replies. Returns the next chunk, or `None` if the session is over.
+// Feeds a chunk of bytes to the session, and writes the replies. Returns the next chunk that was read, or `None` if the session is over.
 fn respond_to_chunk<R: Threads, E: EndText, I: Read + Send, O: Sink>(
     context: &SessionContext<'_, R, E>,
     session: &mut Session,
@@ -115,8 +115,8 @@ fn respond_to_chunk<R: Threads, E: EndText, I: Read + Send, O: Sink>(
     Ok(Some(read_chunk(context.alloc, input)?))
 }
 
-// Feeds the byte at an index of a chunk to the session, and writes the reply. If the byte requests a move and another byte follows in the
-// chunk, also makes the move. Returns whether a move is pending.
+// Feeds the byte at an index of a chunk to the session, and writes the reply. If the byte requests a move and is not the last of the chunk,
+// also makes the move. Returns whether a requested move is still to be made.
 fn respond_to_byte<R, E: EndText, O: Sink>(
     context: &SessionContext<'_, R, E>,
     session: &mut Session,
@@ -146,7 +146,8 @@ fn respond_to_byte<R, E: EndText, O: Sink>(
     Ok(false)
 }
 
-// Makes the requested move, and writes the reply to it. `next_byte` is the next byte of the chunk, which interrupts the move if it is 0x03.
+// Makes the requested move, and writes the reply to it. `next_byte` is the byte of the chunk that follows the request; it interrupts the
+// move if it is 0x03.
 fn write_move_reply_before<R, E: EndText, O: Sink>(
     context: &SessionContext<'_, R, E>,
     session: &mut Session,
@@ -188,7 +189,7 @@ fn write_byte_reply<O: Sink>(
     write_reply_bytes(out, reply.as_slice())
 }
 
-// Makes the requested move, and writes the session's reply to it.
+// Makes the requested move, which `interrupt` can end early, and writes the session's reply to it.
 fn write_move_reply<R, E: EndText, J: Interrupt, O: Sink>(
     context: &SessionContext<'_, R, E>,
     session: &mut Session,
@@ -207,7 +208,7 @@ fn write_move_reply<R, E: EndText, J: Interrupt, O: Sink>(
     match session.work(context.alloc, context.end, interrupt) {
         Ok(reply) => write_reply_bytes(out, reply.as_slice()),
         Err(error) => {
-            // gdb is waiting for a reply, and a read for gdb.
+            // gdb waits for a reply to its request, so it gets one.
             write_reply_bytes(out, NO_MEMORY.as_bytes())?;
             Err(error.into())
         }
@@ -227,7 +228,7 @@ fn write_reply_bytes<O: Sink>(out: &mut O, reply: &[u8]) -> Result<(), SessionEr
     }
 }
 
-// Makes the requested move while another thread reads once, and writes the reply. Returns the bytes that were read.
+// Makes the requested move while another thread reads once, and writes the reply. Returns the bytes that the thread read.
 fn move_while_reading<R: Threads, E: EndText, I: Read + Send, O: Sink>(
     context: &SessionContext<'_, R, E>,
     session: &mut Session,
@@ -248,8 +249,8 @@ fn move_while_reading<R: Threads, E: EndText, I: Read + Send, O: Sink>(
     move_while_reading_into(context, session, input, out, &raised)
 }
 
-// Makes the requested move while another thread reads once, and writes the reply. Returns the bytes that were read. The move is interrupted
-// if these bytes begin with 0x03, if there are none, or if the read fails. `raised` passes the interrupt between the threads.
+// Makes the requested move while another thread reads once, and writes the reply. Returns the bytes that the thread read. The move is
+// interrupted if these bytes begin with 0x03, if there are none, or if the read fails; the threads share `raised` for this.
 fn move_while_reading_into<R: Threads, E: EndText, I: Read + Send, O: Sink>(
     context: &SessionContext<'_, R, E>,
     session: &mut Session,

@@ -16,7 +16,7 @@ impl Interrupt for AlwaysRaised {
 
     ghost was_raised = { λ _. true };
 
-    // Returns true: the move is interrupted at once.
+    // Returns true: a move is interrupted at once.
     fn is_raised(&mut self) -> bool {
         true
     }
@@ -31,7 +31,7 @@ impl Interrupt for NeverRaised {
 
     ghost was_raised = { λ _. false };
 
-    // Returns false: the move is never interrupted.
+    // Returns false: a move is never interrupted.
     fn is_raised(&mut self) -> bool {
         false
     }
@@ -41,14 +41,14 @@ impl Interrupt for NeverRaised {
 #[derive(Drop)]
 pub(crate) struct SharedInterrupt<'a> {
     pub raised: &'a AtomicBool,
-    /// Whether a move has seen the interrupt raised.
+    /// Whether the move saw that the interrupt was raised.
     pub was_seen: bool,
 }
 
 impl Interrupt for SharedInterrupt<'_> {
     ghost was_raised = { λ interrupt. interrupt.was_seen };
 
-    // Whether the reading thread has raised the interrupt. Records the result.
+    // Whether the other thread has raised the interrupt. Records the answer in `was_seen`.
     fn is_raised(&mut self) -> bool {
         self.was_seen = self.raised.load(SeqCst);
         self.was_seen

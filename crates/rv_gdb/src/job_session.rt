@@ -1,4 +1,4 @@
-//! The session over the run of a job.
+//! The gdb session of a job's run.
 
 ghost use Rattle.std.specs.Prelude.{◌≡◌, ◌<◌, IfOk, MatchOption, Some, false, is_ok, length, option_map};
 ghost use Rattle.rv_trace.specs.declared_job.Job.{Job as AJob};
@@ -10,8 +10,8 @@ use rv_session::{Program, Session, Start};
 use rv_trace::{Bytes, Image, Plan, image_bytes, image_of_bytes, machine_at};
 use std::alloc::{AllocError, Global};
 
-/// Returns a session at the start of the run of the job at the index `index`, before gdb has sent anything, or `None` if the job is
-/// refused. `path` is the path by which gdb knows the job's image.
+/// Returns a session at the start of the run of the job at an index, before gdb has sent anything, or `None` if the job is refused. `path`
+/// is the path of the job's image that gdb is given.
 pub fn session_at(
     alloc: Global,
     plan: &Plan,
@@ -35,7 +35,7 @@ pub fn session_at(
     session_of_image(alloc, plan, index, &image, program)
 }
 
-// Returns a session at the start of the run of a job that has this image, or `None` if the job is refused.
+// Returns a session at the start of the run of the job at an index, whose image is `image`, or `None` if the job is refused.
 fn session_of_image(
     alloc: Global,
     plan: &Plan,

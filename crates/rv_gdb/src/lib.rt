@@ -1,7 +1,7 @@
 //! Debugs a job of a plan with gdb.
 //!
-//! [`session_at`] returns the session over the run of a job, at its first step. [`serve`] receives gdb's bytes from a reader and writes the
-//! session's replies. Ctrl-C interrupts a move in progress.
+//! [`session_at`] returns a session at the start of a job's run. [`serve`] receives gdb's bytes from a reader and writes the session's
+//! replies. Ctrl-C interrupts a move in progress.
 #![tactic(auto)]
 
 mod conversation;
@@ -12,5 +12,5 @@ mod reads;
 pub use conversation::{SessionContext, SessionError, serve};
 pub use job_session::session_at;
 
-// From the crates below: what this interface names, and what its callers need with it.
+// Re-exports from lower crates: the types in this interface, and what its callers need with them.
 pub use rv_session::{EndText, Session};

@@ -1,4 +1,4 @@
-//! Reads from gdb, some of which happen during a move.
+//! Reads from gdb, before a move or during it.
 
 ghost use Rattle.std.specs.Prelude.{◌≡◌, ◌≢◌, IfErr, IfOk, OnOk, true};
 ghost use Rattle.rv_gdb.specs.Serving.{IsChunkRead};
@@ -11,10 +11,10 @@ use std::io::{ErrorKind, Read};
 use std::sync::atomic::AtomicBool;
 use std::sync::atomic::Ordering::SeqCst;
 
-// The maximum number of bytes in a read. gdb's packets have up to 16,384.
+// The maximum number of bytes in a read. A packet of gdb has at most 16,384.
 const MAX_READ: usize = 16_384;
 
-/// Reads once, and returns the bytes that were read; there are none only at the end of the input.
+/// Reads once, and returns the bytes that were read. There are none only at the end of the input.
 pub(crate) fn read_chunk<I: Read>(alloc: Global, input: &mut I) -> Result<Vec<u8>, SessionError>
     ensures read { IfOk result (λ chunk. IsChunkRead (I.remaining input.old) (I.remaining input.new) chunk.items) }
     ensures failed { IfErr result (λ error. error ≢ SessionError.ReplyWriteFailed) }
@@ -26,8 +26,8 @@ pub(crate) fn read_chunk<I: Read>(alloc: Global, input: &mut I) -> Result<Vec<u8
     }
 }
 
-/// Returns an error if a move was interrupted although the bytes that were read do not interrupt it. The reading thread never raises such
-/// an interrupt, but no contract says what another thread stores, so this is checked at run time.
+/// Returns an error if a move was interrupted although the bytes that were read do not interrupt moves. The other thread never raises the
+/// interrupt in this case, but no contract says what another thread stores, so this is checked when it happens.
 pub(crate) fn check_interrupt(was_seen: bool, chunk: &[u8]) -> Result<(), SessionError>
     ensures raised { OnOk result (was_seen ≡ true → is_interrupted chunk.now true ≡ true) }
     ensures failed { IfErr result (λ error. error ≢ SessionError.ReplyWriteFailed) }
@@ -38,7 +38,7 @@ pub(crate) fn check_interrupt(was_seen: bool, chunk: &[u8]) -> Result<(), Sessio
     Ok(())
 }
 
-/// Reads once, and returns the bytes that were read. Raises the interrupt if they interrupt a move or if the read failed.
+/// Reads once, and returns the bytes that were read. Raises the interrupt if they interrupt a move or if the read fails.
 pub(crate) fn read_ahead<I: Read>(
     alloc: Global,
     input: &mut I,
@@ -56,7 +56,7 @@ pub(crate) fn read_ahead<I: Read>(
     read
 }
 
-// Whether bytes that arrive during a move interrupt it: they begin with 0x03, or there are none, which means that the input has ended.
+// Whether bytes that arrive during a move interrupt it: they begin with 0x03, or there are none because the input has ended.
 fn is_interrupted(bytes: &[u8]) -> bool
     ensures { result ≡ is_interrupted bytes.now true }
 {

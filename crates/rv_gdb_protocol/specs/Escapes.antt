@@ -1,4 +1,4 @@
--- Escapes: how bytes with a special meaning are written in a frame, and the data of a text with escapes.
+-- Escapes: how bytes with a special meaning are written in a packet, and the data that a text with escapes represents.
 use Rattle.std.specs.Prelude.{ℕ, List, [], ◌∷◌, ◌++◌, ◌==◌, ◌||◌, Bool, true, false, bit_xor, fold, if◌then◌else◌, not}
 use Rattle.std.specs.List.{flat_map}
 
@@ -14,7 +14,7 @@ body_end = 35
 abbrev pub escape : ℕ
 escape = 125
 
--- `*`, which repeats the previous byte
+-- `*`, which in a packet means that the byte before it is repeated
 abbrev pub repeat_mark : ℕ
 repeat_mark = 42
 
@@ -34,12 +34,12 @@ escaped_byte byte = if is_special byte then escape ∷ inverted byte ∷ [] else
 abbrev pub escaped : List ℕ → List ℕ
 escaped body = flat_map escaped_byte body
 
--- whether a byte is an escape: it is `}`, and the Bool, which says that the previous byte is an escape, is false
+-- whether a byte is an escape: it is `}`, and the byte before it is not an escape, which the Bool says
 abbrev pub is_escape : Bool → ℕ → Bool
 is_escape true byte = false
 is_escape false byte = byte == escape
 
--- the data that a byte represents, given whether the previous byte is an escape; empty for an escape
+-- the data that a byte represents; empty for an escape; the Bool says whether the byte before it is an escape
 abbrev pub data_byte : Bool → ℕ → List ℕ
 data_byte true byte = inverted byte ∷ []
 data_byte false byte = if byte == escape then [] else byte ∷ []

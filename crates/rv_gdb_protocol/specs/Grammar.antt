@@ -1,5 +1,4 @@
--- The grammar of requests: a row for each packet of the protocol, with its fields in order. Any other text is not a request and is
--- rejected.
+-- The grammar of requests: a row for each packet of the protocol, with its fields in order. Other texts make no request and are refused.
 use Rattle.std.specs.Prelude.{ℕ, List, ◌∷◌, ◌++◌, ◌≡◌, ◌≤◌, ◌+◌, ◌==◌, true, Some, codes, length, not}
 use Rattle.std.specs.List.{list_all}
 use Rattle.rv_gdb_protocol.specs.Numbers.{parse_bytes, parse_number, parse_value}
@@ -21,7 +20,7 @@ joined_by delimiter first second = first ++ delimiter ∷ second
 abbrev pub HasNoDelimiter : ℕ → List ℕ → Type 0
 HasNoDelimiter delimiter text = list_all (λ byte. not (byte == delimiter)) text ≡ true
 
--- the text consists of the digits of two numbers, separated by a comma
+-- the text is the digits of two numbers, separated by a comma
 pub record AreTwoNumbers (text : List ℕ) (first second : ℕ) : Type 0 where
   pub first_digits : List ℕ
   -- the digits of the second number
@@ -30,7 +29,8 @@ pub record AreTwoNumbers (text : List ℕ) (first second : ℕ) : Type 0 where
   pub first_is : parse_number first_digits ≡ Some first
   pub second_is : parse_number second_digits ≡ Some second
 
--- the text is the arguments of `Z` and `z` for this stoppoint: 0 and 1 are breakpoints, 2 to 4 are watchpoints for writes, reads and both
+-- the text is the arguments of `Z` or `z` for this breakpoint or watchpoint; the kinds 0 and 1 are breakpoints, and 2 to 4 are watchpoints
+-- for writes, reads and both
 pub data IsStoppointText : List ℕ → Stoppoint → Type 0 where
   software : (fields : List ℕ) (address kind : ℕ) → AreTwoNumbers fields address kind → IsStoppointText (codes "0," ++ fields) (stoppoint_kind.Break address)
   hardware : (fields : List ℕ) (address kind : ℕ) → AreTwoNumbers fields address kind → IsStoppointText (codes "1," ++ fields) (stoppoint_kind.Break address)
@@ -44,12 +44,12 @@ pub data IsStoppointText : List ℕ → Stoppoint → Type 0 where
       → address + count ≤ 4294967296
       → IsStoppointText (codes "4," ++ fields) (stoppoint_kind.Watch watch.Accesses (record { address = address; count = count }))
 
--- the text `c` requests to continue, and `s` to step
+-- the packet `c` continues, and `s` steps
 pub data IsMove : List ℕ → Move → Type 0 where
   continues : IsMove (codes "c") move.Continue
   steps : IsMove (codes "s") move.Step
 
--- the text is an action of `vCont;` that requests this move: a signal is ignored, and `r` steps while the pc is in a range of addresses
+-- the text is an action of `vCont;` for this move; a signal is ignored, and `r` steps while the pc is in a range of addresses
 pub data IsAction : List ℕ → Move → Type 0 where
   moves : (text : List ℕ) (step : Move) → IsMove text step → IsAction text step
   continues_with_signal : (signal : List ℕ) (number : ℕ) → parse_number signal ≡ Some number

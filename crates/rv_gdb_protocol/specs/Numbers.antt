@@ -1,23 +1,23 @@
--- Numbers, bytes and texts in bodies.
+-- Numbers, bytes and texts in packets.
 use Rattle.std.specs.Prelude.{ℕ, List, ◌+◌, ◌*◌, ◌==◌, ◌&&◌, Option, Some, None, Result, Ok, Err, fold, if◌then◌else◌, length, nat_eq, nat_le, take, drop, position, option_and_then}
 use Rattle.std.specs.Int.{w32, from_le_bytes}
 use Rattle.std.specs.List.{starts_with}
 use Rattle.hex.specs.Hex.{decode_of, decode_sized, hex_digit_value}
 use Rattle.hex.specs.declared.error.FromHexError.{FromHexError}
 
--- applies the next step only if there is a value
+-- the operator that applies the next step only if there is a value
 infixl 10 ◌>>=◌
 -- the result of `next` for the value, or `None` if there is no value or `next` returns `None`
 abbrev pub ◌>>=◌ : {A B : Type 0} → Option A → (A → Option B) → Option B
 value >>= next = option_and_then next value
 
--- the number with one more hexadecimal digit, or `None` if either is missing
+-- the number with one more hexadecimal digit, or `None` if the number or the digit is missing
 abbrev pub with_digit : Option ℕ → Option ℕ → Option ℕ
 with_digit (Some value) (Some digit) = Some (value * 16 + digit)
 with_digit (Some value) None = None
 with_digit None digit = None
 
--- the number with the byte as one more hexadecimal digit, or `None` if there is no number or the byte is not a digit
+-- the number with the byte as one more hexadecimal digit, or `None` if the digits before are not a number or the byte is not a digit
 abbrev pub with_hex_digit : Option ℕ → ℕ → Option ℕ
 with_hex_digit value byte = with_digit value (hex_digit_value byte)
 
@@ -34,12 +34,12 @@ bytes_if_decoded (Err refused) = None
 unfoldable pub parse_bytes : List ℕ → Option (List ℕ)
 parse_bytes text = bytes_if_decoded (decode_of text)
 
--- the value of a register with the decoded bytes, low byte first, or `None` if decoding failed
+-- the value of the decoded bytes, low byte first, or `None` if decoding failed
 abbrev pub value_if_decoded : Result (List ℕ) FromHexError → Option ℕ
 value_if_decoded (Ok bytes) = Some (from_le_bytes w32 bytes)
 value_if_decoded (Err refused) = None
 
--- the value of a register that eight hexadecimal digits represent, low byte first, or `None` for any other text
+-- the value of a register from eight hexadecimal digits, low byte first, or `None` for any other text
 unfoldable pub parse_value : List ℕ → Option ℕ
 parse_value text = value_if_decoded (decode_sized text 4)
 
@@ -55,7 +55,7 @@ parse_two_numbers delimiter text = do
   second ← parse_number (drop (index + 1) text)
   Some (first, second)
 
--- the text up to this index, or the whole text if there is no index
+-- the text up to this index, or the whole text if no index is given
 abbrev pub text_to : Option ℕ → List ℕ → List ℕ
 text_to (Some index) text = take index text
 text_to None text = text

@@ -1,4 +1,4 @@
--- The requests of gdb's packets: a packet has a name, followed by arguments.
+-- The requests of gdb's packets. The body of a packet is a name followed by arguments.
 use Rattle.std.specs.Prelude.{ℕ, List, ◌==◌, ◌||◌, Bool, Option, Some, None, codes, if◌then◌else◌, length, nat_eq, option_map, unwrap_or}
 use Rattle.std.specs.List.{starts_with}
 use Rattle.std.specs.Option.{option_or}
@@ -11,19 +11,19 @@ use Rattle.rv_gdb_protocol.specs.declared.request.Refusal.TheVariants as refusal
 use Rattle.rv_gdb_protocol.specs.declared.request.Request.{Request}
 use Rattle.rv_gdb_protocol.specs.declared.request.Request.TheVariants as gdb_request
 
--- the first of several that is present
+-- the operator that takes the first value that exists
 infixl 5 ◌<|>◌
--- the first of the two values, or the second one if the first is missing
+-- the first value, or, if there is none, the second
 abbrev pub ◌<|>◌ : {A : Type 0} → Option A → Option A → Option A
 one <|> other = option_or one other
 
--- the result of `request` for the arguments of a packet that begins with `name`, or `None` for any other body
+-- the request that `request` makes of the arguments of a packet with this name, or `None` for any other packet
 abbrev pub request_if_named : List ℕ → (List ℕ → Request) → List ℕ → Option Request
 request_if_named name request body = option_map request (text_after name body)
 
 -- ---- packets without arguments
 
--- the request of a packet without arguments that asks for something or turns off acknowledgements, or `None` for any other packet
+-- the request of a query without arguments, of `g`, or of `QStartNoAckMode`; `None` for any other packet
 unfoldable pub bare_query : List ℕ → Option Request
 bare_query body =
     if bytes_eq body (codes "?") then Some gdb_request.LastStop
@@ -35,8 +35,8 @@ bare_query body =
     else if bytes_eq body (codes "vCont?") then Some gdb_request.Actions
     else None
 
--- the request of a packet without arguments that moves backwards, kills the program, is only accepted, or is a call on the image file, or
--- `None` for any other packet
+-- the request of a packet without arguments that moves backwards, kills the program, is accepted without effect, or is a call on the image
+-- file; `None` for any other packet
 unfoldable pub bare_command : List ℕ → Option Request
 bare_command body =
     if bytes_eq body (codes "bs") then Some (gdb_request.Move move.StepBack)
@@ -71,7 +71,7 @@ register_or_memory_request body =
     <|> request_if_named (codes "P") write_register body
     <|> request_if_named (codes "m") read_memory body
 
--- the request of a packet that sets or clears a stoppoint, or `None` for any other packet
+-- the request of a packet that sets or clears a breakpoint or watchpoint, or `None` for any other packet
 unfoldable pub stoppoint_request : List ℕ → Option Request
 stoppoint_request body = request_if_named (codes "Z") (stoppoint_change gdb_request.Set) body <|> request_if_named (codes "z") (stoppoint_change gdb_request.Clear) body
 
@@ -81,11 +81,11 @@ move_of_plain_action text =
     if bytes_eq text (codes "c") then Some move.Continue
     else if bytes_eq text (codes "s") then Some move.Step else None
 
--- the move `step` if the text is the action `name` of `vCont;` followed by a signal, which is ignored, or else `None`
+-- `step` if the text is the action `name` of `vCont;` followed by a signal, which is ignored; otherwise `None`
 abbrev pub signal_action : List ℕ → Move → List ℕ → Option Move
 signal_action name step text = text_after name text >>= move_with_signal step
 
--- the move that the action `r` of `vCont;` requests, which steps while the pc is in a range of addresses, or `None` for any other action
+-- the move of the action `r` of `vCont;`, which steps while the pc is in a range of addresses, or `None` for any other action
 abbrev pub range_action : List ℕ → Option Move
 range_action text = text_after (codes "r") text >>= move_within_range
 
@@ -94,7 +94,8 @@ unfoldable pub action_of : List ℕ → Option Move
 action_of text = move_of_plain_action text <|> signal_action (codes "C") move.Continue text <|> signal_action (codes "S") move.Step text
     <|> range_action text
 
--- the request of `vCont;` with these arguments, or a refusal if they are malformed; only the first action counts, since there is one thread
+-- the request of `vCont;` with these arguments, or a refusal if they are malformed; only the first action is used, since there is only one
+-- thread
 unfoldable pub first_action : List ℕ → Request
 first_action args = or_refusal refusal.Malformed (option_map gdb_request.Move (action_of (text_before colon (text_before semicolon args))))
 
@@ -107,11 +108,12 @@ move_request body =
     <|> request_if_named (codes "C") (signal_move move.Continue) body
     <|> request_if_named (codes "S") (signal_move move.Step) body
 
--- a request to detach if nothing follows `D`, or `;` and any text (gdb sends a process number); otherwise the refusal of an unknown packet
+-- the request to detach if nothing follows `D`, or `;` and any text, for which gdb sends a process number; otherwise a refusal as an
+-- unknown packet
 unfoldable pub detach : List ℕ → Request
 detach args = if length args == 0 || starts_with nat_eq args (codes ";") then gdb_request.Detach else gdb_request.Refused refusal.Unknown
 
--- the request of a packet that is accepted whatever follows its name, or `None` for any other packet
+-- the request of a packet whose arguments are ignored: `H`, `T`, `vKill` or `vRun`; `None` for any other packet
 unfoldable pub accepted_request : List ℕ → Option Request
 accepted_request body =
     if starts_with nat_eq body (codes "H") then Some gdb_request.Accepted
@@ -123,7 +125,7 @@ accepted_request body =
 abbrev pub detach_request : List ℕ → Option Request
 detach_request body = request_if_named (codes "D") detach body
 
--- whether a packet is a call whose first argument is a file descriptor
+-- whether a packet is a call on a file descriptor
 unfoldable pub is_file_call : List ℕ → Bool
 is_file_call body =
     starts_with nat_eq body (codes "vFile:pread:") || starts_with nat_eq body (codes "vFile:fstat:")
@@ -133,7 +135,7 @@ is_file_call body =
 abbrev pub file_reading : List ℕ → Option Request
 file_reading body = request_if_named (codes "vFile:pread:5,") read_file body
 
--- the refusal of a call on a file descriptor other than 5, or `None` for any other packet
+-- the refusal of a file call with a descriptor other than 5, or `None` if the packet is not a file call
 abbrev pub other_descriptor_request : List ℕ → Option Request
 other_descriptor_request body = if is_file_call body then Some (gdb_request.Refused refusal.OtherFile) else None
 
@@ -156,6 +158,6 @@ request_without_bytes body =
     bare_query body <|> bare_command body <|> query_request body <|> description_request body <|> image_path_request body <|> register_or_memory_request body <|> stoppoint_request body
     <|> move_request body <|> accepted_request body <|> detach_request body <|> file_reading body <|> other_descriptor_request body
 
--- the request that the body of a packet makes; a packet that makes none is refused as unknown
+-- the request that the body of a packet makes; a packet that is not in the protocol is refused as unknown
 unfoldable pub request_of : List ℕ → Request
 request_of body = unwrap_or (request_without_bytes body <|> request_with_bytes body) (gdb_request.Refused refusal.Unknown)

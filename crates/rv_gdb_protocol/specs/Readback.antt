@@ -1,4 +1,4 @@
--- Round trips: framed bodies as they are received, however their bytes are split.
+-- Round trips: what the parser receives of a packet that was made from a body, in whatever pieces its bytes arrive.
 use Rattle.std.specs.Prelude.{ℕ, List, [], ◌∷◌, ◌++◌, ◌≡◌, ◌≤◌, ◌==◌, ◌||◌, Bool, true, false, fold, length, not}
 use Rattle.std.specs.List.{flat_map, list_all}
 use Rattle.hex.specs.Hex.{hex_digit_value}
@@ -14,16 +14,16 @@ use Rattle.rv_gdb_protocol.specs.declared.frame.Checksum.TheVariants as checksum
 abbrev pub is_plain : ℕ → Bool
 is_plain byte = not (byte == packet_start || byte == body_end)
 
--- the text can be sent in a packet and is short enough to be stored: it has neither `$` nor `#`
+-- the text can be sent in a packet: it has neither `$` nor `#`, and is short enough to be stored
 pub record CanBeSent (text : List ℕ) : Type 0 where
   pub plain : list_all is_plain text ≡ true
   pub fits : length text ≤ max_body
 
--- a packet with this text and the digits `high` and `low` as its checksum
+-- the packet around this text with `high` and `low` as the digits of its checksum
 abbrev pub packet_with_digits : List ℕ → ℕ → ℕ → List ℕ
 packet_with_digits text high low = packet_start ∷ (text ++ body_end ∷ high ∷ low ∷ [])
 
--- `Right` if the digits `high` and `low` are the checksum of the text, or else `Wrong`
+-- `Right` if the digits `high` and `low` are the checksum of the text, else `Wrong`
 abbrev pub check_of_digits : List ℕ → ℕ → ℕ → Checksum
 check_of_digits text high low = checksum_check (checksum_of text) (parse_checksum (hex_digit_value high) (hex_digit_value low))
 
@@ -37,20 +37,20 @@ incoming_in_pieces state (piece ∷ rest) =
 abbrev pub joined : List (List ℕ) → List ℕ
 joined pieces = flat_map (λ piece. piece) pieces
 
--- however the bytes are split, the parser receives exactly one packet, with this text and checksum, and is then between packets
+-- in whatever pieces the bytes arrive, the parser receives exactly one packet, with this text and checksum, and is then between packets
 pub record IsReceivedAsOnePacket (bytes text : List ℕ) (sum : Checksum) : Type 0 where
   -- in whatever pieces the bytes arrive, this packet is the only item received
   pub received : (pieces : List (List ℕ)) → joined pieces ≡ bytes → incoming_in_pieces between_packets pieces ≡ Packet text sum ∷ []
   -- afterwards the parser is between packets
   pub state_after : fold state_after_byte between_packets bytes ≡ between_packets
 
--- a framed body is received as one packet with a correct checksum, and its data is the body
+-- the packet made from the body is received as one packet with a correct checksum, and its data is the body
 pub record IsReadBack (body : List ℕ) : Type 0 where
   pub received : IsReceivedAsOnePacket (packet_of body) (escaped body) checksum.Right
   pub data_is : data_of false (escaped body) ≡ body
   pub complete : has_complete_escapes (escaped body) ≡ true
 
--- the bytes end with a packet that contains this text; `sum` says whether its checksum is correct
+-- the bytes end with a packet around this text; `sum` says whether its checksum is correct
 pub record EndsWithPacket (bytes text : List ℕ) (sum : Checksum) : Type 0 where
   pub front : List ℕ
   pub high : ℕ

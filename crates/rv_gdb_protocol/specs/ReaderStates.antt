@@ -12,7 +12,7 @@ use Rattle.rv_gdb_protocol.specs.declared.frame.PacketPosition.TheVariants as po
 abbrev pub max_body : ℕ
 max_body = 16384
 
--- the state of the parser: where it is in a packet, and the body so far
+-- the state of the parser: where it is in a packet, and the stored part of the body
 pub record ReaderState : Type 0 where
   pub position : PacketPosition
   pub body : List ℕ
@@ -27,11 +27,11 @@ max_body_len position.LongBody = 0
 max_body_len position.LongFirstDigit = 0
 max_body_len position.LongSecondDigit = 0
 
--- the parser between packets
+-- the parser between packets, which is also its initial state
 abbrev pub between_packets : ReaderState
 between_packets = record { position = position.Between; body = [] }
 
--- the parser at the beginning of a body: after `$`, which also drops the bytes of a body that was not complete
+-- the parser at the beginning of a body: after `$`, which also begins a new packet within an incomplete one
 abbrev pub at_body_start : ReaderState
 at_body_start = record { position = position.Body; body = [] }
 
@@ -39,12 +39,12 @@ at_body_start = record { position = position.Body; body = [] }
 abbrev pub in_long_body : ReaderState
 in_long_body = record { position = position.LongBody; body = [] }
 
--- the parser after one more byte of a body, which becomes too long if the byte does not fit
+-- the parser after one more byte of a body; if the body would be too long with it, it is no longer stored
 abbrev pub longer_body : List ℕ → ℕ → ReaderState
 longer_body body byte =
     if nat_lt (length body) max_body then record { position = position.Body; body = body ++ byte ∷ [] } else in_long_body
 
--- the parser after a byte, given its state; between packets, any byte but `$` leaves it unchanged
+-- the parser after a byte; the first argument is its position in a packet; between packets, only `$` changes it
 abbrev pub state_after_byte_at : PacketPosition → ReaderState → ℕ → ReaderState
 state_after_byte_at position.Between state byte = if byte == packet_start then at_body_start else state
 state_after_byte_at position.Body state byte =
@@ -64,13 +64,13 @@ state_after_byte_at position.LongSecondDigit state byte = record { position = po
 abbrev pub state_after_byte : ReaderState → ℕ → ReaderState
 state_after_byte state byte = state_after_byte_at state.position state byte
 
--- the item that a byte between packets completes: 0x03 is Ctrl-C, `+` and `-` acknowledge a packet; `None` for any other byte
+-- the item that a byte between packets completes: 0x03 is Ctrl-C, and `+` and `-` are acknowledgements; `None` for any other byte
 abbrev pub single_byte_item : ℕ → Option Incoming
 single_byte_item byte = if byte == 3 then Some incoming.Interrupt
     else if byte == 43 then Some incoming.Acknowledged
     else if byte == 45 then Some incoming.ResendRequested else None
 
--- the item that a byte completes in a state with this body, or `None`: a packet is complete at the second digit of its checksum
+-- the item that a byte completes at this position with this body, or `None`; a packet is complete at the second digit of its checksum
 abbrev pub item_in_state : PacketPosition → List ℕ → ℕ → Option Incoming
 item_in_state position.Between body byte = single_byte_item byte
 item_in_state position.Body body byte = None

@@ -1,4 +1,4 @@
--- The bodies of replies that are equal in every session, and the parts of longer texts.
+-- The bodies of replies that do not depend on the session, and replies with parts of longer texts.
 use Rattle.std.specs.Prelude.{ℕ, List, ◌∷◌, Option, Some, None, codes, drop, if◌then◌else◌, length, min, nat_le, take}
 use Rattle.rv_gdb_protocol.specs.declared.request.Part.{Part}
 use Rattle.rv_gdb_protocol.specs.declared.request.Refusal.{Refusal}
@@ -6,7 +6,7 @@ use Rattle.rv_gdb_protocol.specs.declared.request.Refusal.TheVariants as refusal
 use Rattle.rv_gdb_protocol.specs.declared.request.Request.{Request}
 use Rattle.rv_gdb_protocol.specs.declared.request.Request.TheVariants as gdb_request
 
--- the body of the reply that refuses a request
+-- the body of the reply to a refused request
 abbrev pub refusal_text : Refusal → List ℕ
 refusal_text refusal.Unknown = codes ""
 refusal_text refusal.Failed = codes "E01"
@@ -23,7 +23,7 @@ abbrev pub features : List ℕ
 features =
     codes "PacketSize=4000;QStartNoAckMode+;ReverseStep+;ReverseContinue+;qXfer:features:read+;qXfer:exec-file:read+"
 
--- the body of the reply to a request that has an equal reply in every session, or `None` if the reply depends on the session
+-- the body of the reply to a request if it is the same in every session, or `None` if it depends on the session
 abbrev pub fixed_reply : Request → Option (List ℕ)
 fixed_reply gdb_request.Features = Some features
 fixed_reply gdb_request.NoAcknowledgements = Some (codes "OK")
@@ -43,7 +43,7 @@ fixed_reply request = None
 abbrev pub max_part : ℕ
 max_part = 8184
 
--- `l` and the rest of a text if it has at most `count` bytes, or `m` and its first `count` bytes if more follow
+-- `l` and the rest of a text if it has at most `count` bytes, or else `m` and its first `count` bytes
 abbrev pub part_of_rest : List ℕ → ℕ → List ℕ
 part_of_rest rest count = if nat_le (length rest) count then 108 ∷ rest else 109 ∷ take count rest
 

@@ -34,13 +34,13 @@ semicolon = 59
 abbrev pub equals : ℕ
 equals = 61
 
--- the request, or the refusal if there is none
+-- the request, or a refusal for this reason if there is none
 abbrev pub or_refusal : Refusal → Option Request → Request
 or_refusal refusal request = unwrap_or request (gdb_request.Refused refusal)
 
 -- ---- parts of texts, and files
 
--- a part of a text, by its offset and its length
+-- a part of a text with this offset and length
 abbrev pub part_of : ℕ × ℕ → Part
 part_of pair = record { offset = pair.0; count = pair.1 }
 
@@ -54,16 +54,16 @@ description args = unwrap_or
     (option_map (λ part. or_refusal refusal.Failed (option_map gdb_request.Description (parse_part part))) (text_after (codes "target.xml:") args))
     (gdb_request.Refused refusal.OtherAnnex)
 
--- the request for a part of the image's path, from the arguments `PROCESS:OFFSET,COUNT`, of which the process is ignored, or a refusal for
--- other arguments
+-- the request for a part of the image's path, from the arguments `PROCESS:OFFSET,COUNT`, or a refusal for other arguments; `PROCESS` is
+-- ignored
 unfoldable pub image_path : List ℕ → Request
 image_path args = or_refusal refusal.Failed do
   index ← delimiter_index colon args
   part ← parse_part (drop (index + 1) args)
   Some (gdb_request.ImagePath part)
 
--- the path in the arguments `PATH,FLAGS,MODE`, which is in hexadecimal digits, or `None` if they are malformed or the flags are not 0,
--- which means reading
+-- the path in the arguments `PATH,FLAGS,MODE`, where it is written in hexadecimal digits, or `None` if they are malformed or the flags are
+-- not 0, the flags for reading
 unfoldable pub path_to_open : List ℕ → Option (List ℕ)
 path_to_open args = do
   index ← delimiter_index comma args
@@ -124,7 +124,7 @@ write_registers args = or_refusal refusal.Malformed do
 
 -- ---- memory
 
--- a range of memory, by its address and its length
+-- a range of memory with this address and length
 abbrev pub range_of : ℕ × ℕ → Range
 range_of pair = record { address = pair.0; count = pair.1 }
 
@@ -136,20 +136,19 @@ parse_range text = option_map range_of (parse_two_numbers comma text)
 abbrev pub read_memory : List ℕ → Request
 read_memory args = or_refusal refusal.Failed (option_map gdb_request.ReadMemory (parse_range args))
 
--- the request to write these bytes, or `None` if there are not as many as the range has
+-- the request to write these bytes to a range, or `None` if their number is not the range's length
 abbrev pub memory_write : Range → List ℕ → Option Request
 memory_write range bytes = if length bytes == range.count then Some (gdb_request.WriteMemory range.address bytes) else None
 
--- the data of a text with escapes, or `None` if the text ends with an escape
+-- the data that a text with escapes represents, or `None` if the text ends with an escape that lacks its byte
 abbrev pub data_if_complete : List ℕ → Option (List ℕ)
 data_if_complete text = if has_complete_escapes text then Some (data_of false text) else None
 
--- the request to write these bytes, or a refusal if there are none or not as many as the range has
+-- the request to write these bytes to a range, or a refusal if there are none or their number is not the range's length
 abbrev pub memory_write_or_refusal : Range → Option (List ℕ) → Request
 memory_write_or_refusal range bytes = or_refusal refusal.Malformed (bytes >>= memory_write range)
 
--- the request to write memory, from the arguments `ADDRESS,COUNT:BYTES`, where `parse` parses the bytes, or `None` if the range is
--- malformed
+-- the request to write memory, from the arguments `ADDRESS,COUNT:BYTES`, whose bytes `parse` decodes; `None` if the range is malformed
 abbrev pub write_memory : (List ℕ → Option (List ℕ)) → List ℕ → Option Request
 write_memory parse args = do
   index ← delimiter_index colon args
@@ -179,7 +178,7 @@ abbrev pub watchpoint_if_valid : WatchKind → Range → Option Stoppoint
 watchpoint_if_valid kind range = if (nat_le 1 range.count && nat_le range.count 65536) && nat_le (range.address + range.count) 4294967296
     then Some (stoppoint_kind.Watch kind range) else None
 
--- the breakpoint that the arguments `,ADDRESS,KIND` specify, or `None` for other arguments
+-- the breakpoint that the arguments `,ADDRESS,KIND` specify, or `None` for other arguments; the kind, which is a length here, is ignored
 abbrev pub parse_breakpoint : List ℕ → Option Stoppoint
 parse_breakpoint text = option_map (λ (range : Range). stoppoint_kind.Break range.address) (stoppoint_range text)
 
@@ -189,39 +188,40 @@ parse_watch_range kind text = do
   range ← stoppoint_range text
   watchpoint_if_valid kind range
 
--- the watchpoint that the arguments specify: `None` if their kind is not 2 (writes), 3 (reads) or 4 (both), and `Some None` if the other
--- arguments are malformed
+-- the watchpoint that the arguments `KIND,ADDRESS,COUNT` specify, with the kind 2 (writes), 3 (reads) or 4 (both): `None` for another kind,
+-- and `Some None` if what follows a known kind is malformed
 abbrev pub parse_watchpoint : List ℕ → Option (Option Stoppoint)
 parse_watchpoint args = option_or (option_map (parse_watch_range watch.Writes) (text_after (codes "2") args))
     (option_or (option_map (parse_watch_range watch.Reads) (text_after (codes "3") args))
     (option_map (parse_watch_range watch.Accesses) (text_after (codes "4") args)))
 
--- the stoppoint that the arguments specify, where the kinds 0 and 1 are breakpoints: `None` if their kind is not 0 to 4, and `Some None` if
--- the other arguments are malformed
+-- the breakpoint (kind 0 or 1) or watchpoint (kind 2 to 4) that the arguments specify: `None` for another kind, and `Some None` if what
+-- follows a known kind is malformed
 abbrev pub parse_stoppoint : List ℕ → Option (Option Stoppoint)
 parse_stoppoint args = option_or (option_map parse_breakpoint (text_after (codes "0") args))
     (option_or (option_map parse_breakpoint (text_after (codes "1") args)) (parse_watchpoint args))
 
--- the refusal of arguments that begin with no known kind: malformed if they are empty, and otherwise unknown
+-- the refusal of arguments that do not begin with a known kind: `Malformed` if they are empty, and otherwise `Unknown`
 abbrev pub unknown_kind_request : List ℕ → Request
 unknown_kind_request args = if length args == 0 then gdb_request.Refused refusal.Malformed else gdb_request.Refused refusal.Unknown
 
--- the request `change` for the stoppoint that the arguments specify, or a refusal for other arguments
+-- the request `change` for the breakpoint or watchpoint that the arguments specify, or a refusal for other arguments
 unfoldable pub stoppoint_change : (Stoppoint → Request) → List ℕ → Request
 stoppoint_change change args = unwrap_or (option_map (λ stoppoint. or_refusal refusal.Malformed (option_map change stoppoint)) (parse_stoppoint args))
     (unknown_kind_request args)
 
 -- ---- moves
 
--- the refusal of a move with arguments: an address, as the Bool says, would make it start elsewhere, and anything else is malformed
+-- the refusal of a move with arguments: `WouldChange` for an address, at which the move would begin, as the Bool says, and otherwise
+-- `Malformed`
 abbrev pub refusal_of_address : Bool → Refusal
 refusal_of_address is_address = if is_address then refusal.WouldChange else refusal.Malformed
 
--- the move if the arguments of `c` or `s` are empty, and otherwise a refusal
+-- the move if the packet `c` or `s` has no arguments, and otherwise a refusal
 unfoldable pub plain_move : Move → List ℕ → Request
 plain_move move args = if length args == 0 then gdb_request.Move move else gdb_request.Refused (refusal_of_address (is_some (parse_number args)))
 
--- the move if the arguments of `C` or `S` are only a signal, which is ignored, and otherwise a refusal
+-- the move if the arguments of the packet `C` or `S` are only a signal, which is ignored, and otherwise a refusal
 unfoldable pub signal_move : Move → List ℕ → Request
 signal_move move args = if is_some (parse_number args) then gdb_request.Move move
     else gdb_request.Refused (refusal_of_address (is_some (parse_two_numbers semicolon args)))
@@ -230,6 +230,6 @@ signal_move move args = if is_some (parse_number args) then gdb_request.Move mov
 abbrev pub move_within_range : List ℕ → Option Move
 move_within_range text = option_map (λ pair. move.StepWithin pair.0 pair.1) (parse_two_numbers comma text)
 
--- the move if the text is the number of a signal, which is ignored, or else `None`
+-- the move if the text is the number of a signal, which is ignored; otherwise `None`
 abbrev pub move_with_signal : Move → List ℕ → Option Move
 move_with_signal move text = if is_some (parse_number text) then Some move else None

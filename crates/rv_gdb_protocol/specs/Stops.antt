@@ -1,4 +1,4 @@
--- The bodies of stop replies: `T` and a signal of gdb, with the stop reason if gdb has a name for it.
+-- The bodies of stop replies: `T` and the number of a signal, with the stop reason if gdb has a name for it.
 use Rattle.std.specs.Prelude.{ℕ, List, ◌++◌, codes}
 use Rattle.std.specs.Int.{w32, to_be_bytes}
 use Rattle.hex.specs.Hex.{encode_lower}
@@ -9,7 +9,7 @@ use Rattle.rv_gdb_protocol.specs.declared.request.WatchKind.TheVariants as watch
 use Rattle.rv_gdb_protocol.specs.declared.stop.Stop.{Stop}
 use Rattle.rv_gdb_protocol.specs.declared.stop.Stop.TheVariants as stop
 
--- the body of the stop reply for a fault of this kind: SIGSEGV, SIGBUS, SIGILL, SIGABRT, SIGSYS or SIGXFSZ, by gdb's numbers
+-- the body of the stop reply for a fault of this kind: SIGSEGV, SIGBUS, SIGILL, SIGABRT, SIGSYS or SIGXFSZ, in gdb's numbering
 abbrev pub fault_text : FaultKind → List ℕ
 fault_text fault.FetchAccess = codes "T0b"
 fault_text fault.StaleCode = codes "T04"
@@ -29,8 +29,8 @@ watch_text watch.Writes = codes "T05watch:"
 watch_text watch.Reads = codes "T05rwatch:"
 watch_text watch.Accesses = codes "T05awatch:"
 
--- the body of the stop reply for this stop: SIGTRAP, SIGINT, SIGXCPU or the signal of a fault; never `W` or `X`, since a run can go
--- backwards from its end
+-- the body of the reply for this stop: SIGTRAP, SIGINT, SIGXCPU or the signal of a fault; never `W` or `X`, which mean that the process is
+-- gone, since a run can go backwards from its end
 unfoldable pub stop_text : Stop → List ℕ
 stop_text stop.Trap = codes "T05"
 stop_text (stop.Watch kind address) = watch_text kind ++ (encode_lower (to_be_bytes w32 address) ++ codes ";")
@@ -40,7 +40,7 @@ stop_text stop.Exit = codes "T05replaylog:end;"
 stop_text stop.Budget = codes "T18"
 stop_text (stop.Fault kind) = fault_text kind
 
--- the kind of end that a stop reply reports to gdb; `NoEnding` for a stop before the end
+-- the kind of end that a stop reply shows to gdb; `NoEnding` for a stop before the end
 pub data EndKind : Type 0 where
   NoEnding : EndKind
   Exited : EndKind
@@ -52,7 +52,7 @@ pub data EndKind : Type 0 where
   BadCall : EndKind
   FileTooLarge : EndKind
 
--- the kind of end that the stop reply for a fault reports
+-- the kind of end that the stop reply for this fault shows
 abbrev pub end_kind_of_fault : FaultKind → EndKind
 end_kind_of_fault fault.FetchAccess = SegmentFault
 end_kind_of_fault fault.LoadAccess = SegmentFault
@@ -66,7 +66,7 @@ end_kind_of_fault fault.Breakpoint = Aborted
 end_kind_of_fault fault.UnknownCall = BadCall
 end_kind_of_fault fault.ConsoleFull = FileTooLarge
 
--- the kind of end that the stop reply for a stop reports
+-- the kind of end that the reply for this stop shows
 abbrev pub end_kind_of_stop : Stop → EndKind
 end_kind_of_stop stop.Exit = Exited
 end_kind_of_stop stop.Budget = UsedUp

@@ -30,8 +30,8 @@ fn parse_part(text: &[u8]) -> Option<Part>
     Some(Part { offset, count })
 }
 
-/// Returns the request for a part of the image's path, from the arguments `PROCESS:OFFSET,COUNT`, of which the process is ignored, or a
-/// refusal for other arguments.
+/// Returns the request for a part of the image's path, from the arguments `PROCESS:OFFSET,COUNT`, or a refusal for other arguments.
+/// `PROCESS` is ignored.
 #[tactic(auto, unfolding(crate::specs::Requests::image_path))]
 pub(crate) fn image_path(args: &[u8]) -> Request
     ensures { result ≡ image_path args.now }
@@ -66,7 +66,7 @@ pub(crate) fn read_register(args: &[u8]) -> Request
     }
 }
 
-// Returns the register whose number the text is, or `None` if it is not the number of a register.
+// Returns the register whose number the text is, or `None` if the text is not the number of a register.
 fn parse_register(text: &[u8]) -> Option<Register>
     ensures { result ≡ parse_register text.now }
 {
@@ -134,7 +134,7 @@ pub(crate) fn parse_range(text: &[u8]) -> Option<Range>
     Some(Range { address, count })
 }
 
-/// Returns the request to write these bytes, or `None` if there are not as many as the range has.
+/// Returns the request to write these bytes to a range, or `None` if their number is not the range's length.
 pub(crate) fn memory_write(range: Range, bytes: Vec<u8>) -> Option<Request>
     ensures { result ≡ memory_write range bytes.items }
 {
@@ -145,8 +145,8 @@ pub(crate) fn memory_write(range: Range, bytes: Vec<u8>) -> Option<Request>
     }
 }
 
-/// Parses a kind and `,ADDRESS,COUNT`: a breakpoint (0 or 1), or a watchpoint for writes (2), reads (3) or both (4). Returns `None` for
-/// another kind, and `Some(None)` for a known kind with malformed arguments.
+/// Parses `KIND,ADDRESS,COUNT`, where the kind is a breakpoint (0 or 1), or a watchpoint for writes (2), reads (3) or both (4). Returns
+/// `None` for another kind, and `Some(None)` if what follows a known kind is malformed.
 pub(crate) fn parse_stoppoint(args: &[u8]) -> Option<Option<Stoppoint>>
     ensures { result ≡ parse_stoppoint args.now }
 {
@@ -159,8 +159,8 @@ pub(crate) fn parse_stoppoint(args: &[u8]) -> Option<Option<Stoppoint>>
     parse_watchpoint(args)
 }
 
-// Parses a kind from 2 to 4 and `,ADDRESS,COUNT` as a watchpoint. Returns `None` for another kind, and `Some(None)` for a known kind with
-// malformed arguments.
+// Parses `KIND,ADDRESS,COUNT` with a kind from 2 to 4. Returns `None` for another kind, and `Some(None)` if what follows a known kind is
+// malformed.
 fn parse_watchpoint(args: &[u8]) -> Option<Option<Stoppoint>>
     ensures { result ≡ parse_watchpoint args.now }
 {
@@ -174,7 +174,7 @@ fn parse_watchpoint(args: &[u8]) -> Option<Option<Stoppoint>>
     Some(parse_watch_range(WatchKind::Accesses, fields))
 }
 
-// Parses `,ADDRESS,KIND` as a breakpoint. Returns `None` for any other text.
+// Parses `,ADDRESS,KIND` as a breakpoint; the kind, which is a length here, is ignored. Returns `None` for any other text.
 fn parse_breakpoint(text: &[u8]) -> Option<Stoppoint>
     ensures { result ≡ parse_breakpoint text.now }
 {
@@ -209,7 +209,7 @@ fn watchpoint_if_valid(kind: WatchKind, range: Range) -> Option<Stoppoint>
     }
 }
 
-/// Returns the refusal of arguments that begin with no known kind: malformed if they are empty, and otherwise unknown.
+/// Returns the refusal of arguments that do not begin with a known kind: `Malformed` if they are empty, and otherwise `Unknown`.
 pub(crate) fn unknown_kind_request(args: &[u8]) -> Request
     ensures { result ≡ unknown_kind_request args.now }
 {
@@ -220,7 +220,8 @@ pub(crate) fn unknown_kind_request(args: &[u8]) -> Request
     }
 }
 
-/// Returns the move if the arguments of `c` or `s` are empty, and otherwise a refusal: with an address the move would start elsewhere.
+/// Returns the move if the packet `c` or `s` has no arguments. Otherwise returns a refusal, since with an address the move would begin
+/// elsewhere.
 #[tactic(auto, unfolding(crate::specs::Requests::plain_move))]
 pub(crate) fn plain_move(step: Move, args: &[u8]) -> Request
     ensures { result ≡ plain_move step args.now }
@@ -231,7 +232,7 @@ pub(crate) fn plain_move(step: Move, args: &[u8]) -> Request
     Request::Refused(refusal_of_address(parse_number(args).is_some()))
 }
 
-/// Returns the move if the arguments of `C` or `S` are only a signal, which is ignored, and otherwise a refusal.
+/// Returns the move if the arguments of the packet `C` or `S` are only a signal, which is ignored; otherwise a refusal.
 #[tactic(auto, unfolding(crate::specs::Requests::signal_move))]
 pub(crate) fn signal_move(step: Move, args: &[u8]) -> Request
     ensures { result ≡ signal_move step args.now }
@@ -242,7 +243,7 @@ pub(crate) fn signal_move(step: Move, args: &[u8]) -> Request
     Request::Refused(refusal_of_address(parse_two_numbers(b';', args).is_some()))
 }
 
-// Returns the refusal of a move with arguments: an address would make it start elsewhere, and anything else is malformed.
+// Returns the refusal of a move with arguments: `WouldChange` for an address, at which the move would begin, and otherwise `Malformed`.
 fn refusal_of_address(is_address: bool) -> Refusal
     ensures { result ≡ refusal_of_address is_address }
 {
@@ -253,7 +254,7 @@ fn refusal_of_address(is_address: bool) -> Refusal
     }
 }
 
-/// Returns the move that steps while the pc is in the range `LOW,HIGH` of addresses, or `None` for any other text.
+/// Returns the move that steps while the pc is in the range of addresses `LOW,HIGH`, or `None` for any other text.
 pub(crate) fn move_within_range(text: &[u8]) -> Option<Move>
     ensures { result ≡ move_within_range text.now }
 {
@@ -261,7 +262,7 @@ pub(crate) fn move_within_range(text: &[u8]) -> Option<Move>
     Some(Move::StepWithin(low, high))
 }
 
-/// Returns the move if the text is the number of a signal, which is ignored, or else `None`.
+/// Returns the move if the text is the number of a signal, which is ignored; otherwise `None`.
 pub(crate) fn move_with_signal(step: Move, text: &[u8]) -> Option<Move>
     ensures { result ≡ move_with_signal step text.now }
 {

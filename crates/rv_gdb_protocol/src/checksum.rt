@@ -1,4 +1,4 @@
-//! Checksums of bodies, and their digits.
+//! Checksums of packets, and their digits.
 
 ghost use Rattle.std.specs.Prelude.{◌≡◌, ◌<◌, IfSome};
 ghost use Rattle.hex.specs.Hex.{hex_digit_value};
@@ -18,7 +18,7 @@ pub(crate) fn checksum_of(text: &[u8]) -> u8
     sum
 }
 
-/// Returns `Right` if the digits `high` and `low` are the checksum of a text, and otherwise `Wrong`.
+/// Returns `Right` if the digits `high` and `low` are the checksum of a text; otherwise `Wrong`.
 pub(crate) fn checksum_check(text: &[u8], high: u8, low: u8) -> Checksum
     ensures { result ≡ checksum_check (checksum_of text.now) (parse_checksum (hex_digit_value high) (hex_digit_value low)) }
 {

@@ -1,4 +1,4 @@
-//! Escapes: how bytes with a special meaning are written in a frame.
+//! Escapes: how bytes with a special meaning are written in a packet.
 
 ghost use Rattle.std.specs.Prelude.{◌≡◌, ◌++◌, IfOk, OnOk, false};
 ghost use Rattle.rv_gdb_protocol.specs.Escapes.{data_byte, data_of, escaped, escaped_byte, is_special, is_escape, has_complete_escapes};
@@ -11,7 +11,7 @@ const ESCAPE: u8 = b'}';
 /// The bit that is inverted in an escaped byte.
 const INVERTED_BIT: u8 = 0x20;
 
-/// Appends a body with escapes, so that none of its bytes has a special meaning in a packet.
+/// Appends a body with escapes, so that no byte with a special meaning is left in it.
 pub fn push_escaped(out: &mut Vec<u8>, body: &[u8]) -> Result<(), AllocError>
     ensures { OnOk result (out.new.items ≡ out.old.items ++ escaped body.now) }
 {
@@ -41,7 +41,8 @@ fn is_special(byte: u8) -> bool
     byte == b'$' || byte == b'#' || byte == ESCAPE || byte == b'*'
 }
 
-/// Appends the data that a text with escapes represents. Returns whether the text is complete, that is, does not end with an escape.
+/// Appends the data that a text with escapes represents. Returns whether the text is complete: it does not end with an escape that lacks
+/// its byte.
 pub fn push_data(out: &mut Vec<u8>, text: &[u8]) -> Result<bool, AllocError>
     ensures appended { OnOk result (out.new.items ≡ out.old.items ++ data_of false text.now) }
     ensures complete { IfOk result (λ complete. complete ≡ has_complete_escapes text.now) }
@@ -53,8 +54,8 @@ pub fn push_data(out: &mut Vec<u8>, text: &[u8]) -> Result<bool, AllocError>
     Ok(!after_escape)
 }
 
-// Appends the data that a byte represents, or nothing if the byte is an escape, and returns whether it is one. `after_escape` says whether
-// the previous byte is an escape.
+// Appends the data that a byte represents, or nothing if the byte is an escape. Returns whether it is one. `after_escape` says whether the
+// byte before it is an escape.
 fn push_data_byte(out: &mut Vec<u8>, after_escape: bool, byte: u8) -> Result<bool, AllocError>
     ensures appended { OnOk result (out.new.items ≡ out.old.items ++ data_byte after_escape byte) }
     ensures escape { IfOk result (λ is. is ≡ is_escape after_escape byte) }

@@ -1,4 +1,4 @@
-//! Bodies in their frames, and what is received.
+//! Packets, and what is received from gdb.
 
 ghost use Rattle.std.specs.Prelude.{◌≡◌, ◌++◌, OnOk};
 ghost use Rattle.rv_gdb_protocol.specs.Escapes.{escaped};
@@ -27,11 +27,11 @@ pub enum Incoming {
     ResendRequested,
     /// The body of a packet, still with its escapes, and whether its checksum is correct.
     Packet(Bytes, Checksum),
-    /// A body of more than 16,384 bytes, which is not kept. Its checksum is not checked.
+    /// The body has more than 16,384 bytes. It was not stored, and its checksum was not checked.
     TooLong,
 }
 
-/// The parser's state: what the next byte belongs to.
+/// Where the parser is in a packet: what the next byte belongs to.
 #[derive(Clone, Copy, Debug, PartialEq, Eq)]
 pub(crate) enum PacketPosition {
     /// Between packets.
@@ -40,7 +40,7 @@ pub(crate) enum PacketPosition {
     Body,
     /// The first digit of a checksum.
     FirstDigit,
-    /// The second digit of a checksum, after this first one.
+    /// The second digit of a checksum, whose first digit is this.
     SecondDigit(u8),
     /// In a body that is too long, or the `#` after it.
     LongBody,

@@ -1,7 +1,8 @@
 //! gdb's remote protocol, as bytes received and bytes to send. Nothing here runs a machine, reads a file or blocks.
 //!
-//! A [`Reader`] takes bytes, however they are split, and returns what it received ([`Incoming`]): bodies with their checksums,
-//! acknowledgements, Ctrl-C. [`push_frame`] frames a body. The other `push_..` functions append the bodies of replies.
+//! A [`Reader`] consumes bytes, in whatever pieces they arrive, and returns what they mean ([`Incoming`]): packets, acknowledgements,
+//! Ctrl-C. [`parse_request`] parses the body of a packet. [`push_frame`] makes a packet of a body, and the other `push_..` functions append
+//! the bodies of replies.
 #![tactic(auto)]
 
 mod arguments;
@@ -33,5 +34,5 @@ pub use request::{Move, Part, Range, Refusal, Register, Request, Stoppoint, Watc
 pub use stop::{Stop, push_stop};
 pub use target::TARGET;
 
-// From the crates below: what this interface names, and what its callers need with it.
+// Re-exports from lower crates: the types in this interface, and what its callers need with them.
 pub use rv_base::{Bytes, Sequence};

@@ -1,4 +1,4 @@
-//! Numbers, bytes and texts in bodies.
+//! Numbers, bytes and texts in packets.
 
 ghost use Rattle.std.specs.Prelude.{◌≡◌, ◌<◌, ◌^◌, IfOk, IfSome, length, option_copied, option_map};
 ghost use Rattle.hex.specs.Hex.{hex_digit_value};
@@ -8,7 +8,7 @@ use crate::checksum::digit_value;
 use hex::FromHexError;
 use std::alloc::{AllocError, Global};
 
-/// The maximum number of digits in a number.
+/// The maximum number of hexadecimal digits in a number.
 const MAX_DIGITS: usize = 8;
 
 /// Returns the number that 1 to 8 hexadecimal digits represent, in either case, or `None` for any other text.
@@ -26,7 +26,8 @@ pub(crate) fn parse_number(text: &[u8]) -> Option<u32>
     value
 }
 
-// Returns the number with the byte as one more hexadecimal digit, or `None` if there is no number or the byte is not a digit.
+// Returns the number with the byte as one more hexadecimal digit, or `None` if the digits before are not a number or the byte is not a
+// digit.
 fn with_hex_digit(value: Option<u32>, byte: u8) -> Option<u32>
     requires { IfSome value (λ value. value < 2 ^ 28) }
     ensures { result ≡ with_hex_digit value byte }
@@ -37,7 +38,7 @@ fn with_hex_digit(value: Option<u32>, byte: u8) -> Option<u32>
     }
 }
 
-/// Returns two numbers that a delimiter separates, as in `80000000,4`, or `None` for any other text.
+/// Returns two numbers separated by a delimiter, as in `80000000,4`, or `None` for any other text.
 #[tactic(auto, unfolding(crate::specs::Numbers::parse_two_numbers))]
 pub(crate) fn parse_two_numbers(delimiter: u8, text: &[u8]) -> Option<(u32, u32)>
     ensures { result ≡ parse_two_numbers delimiter text.now }
@@ -91,7 +92,7 @@ pub(crate) fn parse_bytes(alloc: Global, text: &[u8]) -> Result<Option<Vec<u8>>,
     }
 }
 
-/// Returns the value of a register that eight hexadecimal digits represent, low byte first, or `None` for any other text.
+/// Returns the value of a register from eight hexadecimal digits, low byte first, or `None` for any other text.
 #[tactic(auto, unfolding(crate::specs::Numbers::parse_value))]
 pub(crate) fn parse_value(text: &[u8]) -> Option<u32>
     ensures { result ≡ parse_value text.now }

@@ -1,4 +1,4 @@
-//! Parsers for the packets that carry no bytes.
+//! Parsers for packets whose arguments contain no data bytes.
 
 ghost use Rattle.std.specs.Prelude.{◌≡◌};
 ghost use Rattle.std.specs.Str.{bytes_eq};
@@ -39,7 +39,7 @@ fn is_exactly(body: &[u8], name: &[u8]) -> bool
     body == name
 }
 
-// Returns the request of a packet without arguments that asks for something or turns off acknowledgements, or `None` for any other packet.
+// Returns the request of a query without arguments, of `g`, or of `QStartNoAckMode`; `None` for any other packet.
 #[tactic(auto, unfolding(crate::specs::Packets::bare_query))]
 fn bare_query(body: &[u8]) -> Option<Request>
     ensures { result ≡ bare_query body.now }
@@ -63,8 +63,8 @@ fn bare_query(body: &[u8]) -> Option<Request>
     }
 }
 
-// Returns the request of a packet without arguments that moves backwards, kills the program, is only accepted, or is a call on the image
-// file, or `None` for any other packet.
+// Returns the request of a packet without arguments that moves backwards, kills the program, is accepted without effect, or is a call on
+// the image file; `None` for any other packet.
 #[tactic(auto, unfolding(crate::specs::Packets::bare_command))]
 fn bare_command(body: &[u8]) -> Option<Request>
     ensures { result ≡ bare_command body.now }
@@ -190,8 +190,8 @@ fn move_request(body: &[u8]) -> Option<Request>
     Some(signal_move(Move::Step, args))
 }
 
-// Returns the request of `vCont;` with these arguments, or a refusal if they are malformed. Only the first action counts, since there is
-// one thread.
+// Returns the request of `vCont;` with these arguments, or a refusal if they are malformed. Only the first action is used, since there is
+// only one thread.
 #[tactic(auto, unfolding(crate::specs::Packets::first_action))]
 fn first_action(args: &[u8]) -> Request
     ensures { result ≡ first_action args.now }
@@ -227,22 +227,21 @@ fn move_of_plain_action(text: &[u8]) -> Option<Move>
     }
 }
 
-// Returns `step` if the text is the action `name` of `vCont;` followed by a signal, which is ignored, or else `None`.
+// Returns `step` if the text is the action `name` of `vCont;` followed by a signal, which is ignored; otherwise `None`.
 fn signal_action(name: &[u8], step: Move, text: &[u8]) -> Option<Move>
     ensures { result ≡ signal_action name.now step text.now }
 {
     move_with_signal(step, text_after(name, text)?)
 }
 
-// Returns the move that the action `r` of `vCont;` requests, which steps while the pc is in a range of addresses, or `None` for any other
-// action.
+// Returns the move of the action `r` of `vCont;`, which steps while the pc is in a range of addresses, or `None` for any other action.
 fn range_action(text: &[u8]) -> Option<Move>
     ensures { result ≡ range_action text.now }
 {
     move_within_range(text_after(b"r", text)?)
 }
 
-// Returns the request of a packet that is accepted whatever follows its name, or `None` for any other packet.
+// Returns the request of a packet whose arguments are ignored: `H`, `T`, `vKill` or `vRun`; `None` for any other packet.
 #[tactic(auto, unfolding(crate::specs::Packets::accepted_request))]
 fn accepted_request(body: &[u8]) -> Option<Request>
     ensures { result ≡ accepted_request body.now }
@@ -264,7 +263,7 @@ fn detach_request(body: &[u8]) -> Option<Request>
     Some(detach(args))
 }
 
-// Returns a request to detach if nothing follows `D`, or `;` and any text; otherwise the refusal of an unknown packet.
+// Returns the request to detach if nothing follows `D`, or `;` and any text; otherwise a refusal as an unknown packet.
 #[tactic(auto, unfolding(crate::specs::Packets::detach))]
 fn detach(args: &[u8]) -> Request
     ensures { result ≡ detach args.now }
@@ -284,7 +283,7 @@ fn file_reading(body: &[u8]) -> Option<Request>
     Some(read_file(args))
 }
 
-// Returns the refusal of a call on a file descriptor other than 5, or `None` for any other packet.
+// Returns the refusal of a file call with a descriptor other than 5, or `None` if the packet is not a file call.
 fn other_descriptor_request(body: &[u8]) -> Option<Request>
     ensures { result ≡ other_descriptor_request body.now }
 {
@@ -295,7 +294,7 @@ fn other_descriptor_request(body: &[u8]) -> Option<Request>
     }
 }
 
-// Whether a packet is a call whose first argument is a file descriptor.
+// Whether a packet is a call on a file descriptor.
 #[tactic(auto, unfolding(crate::specs::Packets::is_file_call))]
 fn is_file_call(body: &[u8]) -> bool
     ensures { result ≡ is_file_call body.now }

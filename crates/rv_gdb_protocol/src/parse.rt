@@ -13,7 +13,7 @@ use crate::request::{Range, Refusal, Request};
 use rv_base::Bytes;
 use std::alloc::{AllocError, Global};
 
-/// Returns the request that the body of a packet makes. A malformed or unknown packet gives a refusal, which determines the reply.
+/// Returns the request that the body of a packet makes. For a malformed or unknown packet, it is a refusal, which determines the reply.
 #[tactic(auto, unfolding(crate::specs::Packets::request_of))]
 pub fn parse_request(alloc: Global, body: &[u8]) -> Result<Request, AllocError>
     ensures { IfOk result (λ request. request ≡ request_of body.now) }
@@ -99,7 +99,7 @@ fn write_data(alloc: Global, args: &[u8]) -> Result<Request, AllocError>
     }
 }
 
-// Returns the request to write these bytes, or a refusal if there are none or not as many as the range has.
+// Returns the request to write these bytes to a range, or a refusal if there are none or their number is not the range's length.
 fn memory_write_or_refusal(range: Range, bytes: Option<Vec<u8>>) -> Request
     ensures { result ≡ memory_write_or_refusal range (option_map (λ bytes. bytes.items) bytes) }
 {
@@ -111,7 +111,7 @@ fn memory_write_or_refusal(range: Range, bytes: Option<Vec<u8>>) -> Request
     }
 }
 
-// Returns the data of a text with escapes, or `None` if the text ends with an escape.
+// Returns the data that a text with escapes represents, or `None` if the text ends with an escape that lacks its byte.
 fn data_if_complete(alloc: Global, text: &[u8]) -> Result<Option<Vec<u8>>, AllocError>
     ensures { IfOk result (λ bytes. option_map (λ bytes. bytes.items) bytes ≡ data_if_complete text.now) }
 {
@@ -134,7 +134,7 @@ fn open_file(alloc: Global, args: &[u8]) -> Result<Request, AllocError>
     }
 }
 
-// Returns the path of the file to open, or `None` if the arguments are malformed or the flags are not 0, which means reading.
+// Returns the path of the file to open, or `None` if the arguments are malformed or the flags are not 0, the flags for reading.
 #[tactic(auto, unfolding(crate::specs::Requests::path_to_open))]
 fn path_to_open(alloc: Global, args: &[u8]) -> Result<Option<Vec<u8>>, AllocError>
     ensures { IfOk result (λ path. option_map (λ bytes. bytes.items) path ≡ path_to_open args.now) }

@@ -1,4 +1,4 @@
-//! A parser for received frames.
+//! A parser for received packets.
 
 ghost use Rattle.std.specs.Prelude.{◌≡◌, ◌≤◌, IfOk, OnErr, OnOk, Some, fold, length, take};
 
@@ -9,10 +9,10 @@ use std::alloc::{AllocError, Global};
 use std::marker::Model;
 use std::mem;
 
-/// The maximum length of a body that is kept.
+/// The maximum length of a body that is stored.
 const MAX_BODY: usize = 16384;
 
-/// A parser for packets from gdb, which arrive in pieces. It keeps the body that is not complete yet: at most 16,384 bytes.
+/// A parser for packets from gdb, which can arrive in pieces. It stores the body of an incomplete packet, at most 16,384 bytes.
 #[derive(Drop)]
 pub struct Reader {
     position: PacketPosition,
@@ -44,8 +44,8 @@ impl Reader {
         }
     }
 
-    /// Consumes bytes up to and including the first one that completes an item. Returns how many bytes it consumed, and the item, or `None`
-    /// if no item is complete. The remaining bytes are for the next call.
+    /// Consumes bytes up to and including the first one that completes an item. Returns the number of consumed bytes, and the item or
+    /// `None` if no item is complete. The other bytes are for the next call.
     pub fn receive(
         &mut self,
         alloc: Global,
@@ -95,7 +95,8 @@ impl Reader {
         }
     }
 
-    // Consumes a byte between packets. Returns the item that it completes, or `None`; bytes without a meaning are ignored.
+    // Consumes a byte between packets, and returns the item that it completes: Ctrl-C or an acknowledgement. Other bytes are ignored,
+    // except for `$`, which begins a packet.
     fn receive_between_packets(&mut self, byte: u8) -> Option<Incoming>
         requires { self.old.position ≡ position.Between }
         ensures item { result ≡ incoming_at self.old byte }
@@ -113,7 +114,7 @@ impl Reader {
         }
     }
 
-    // Consumes a byte of a body, which becomes too long if the byte does not fit.
+    // Consumes a byte of a body. If the body would be too long with it, it is no longer stored.
     fn receive_body_byte(&mut self, byte: u8) -> Result<(), AllocError>
         requires { self.old.position ≡ position.Body }
         ensures state { OnOk result (self.new ≡ state_after_byte self.old byte) }
@@ -143,7 +144,7 @@ impl Reader {
         }
     }
 
-    // Begins a body, and drops the bytes of a body that was not complete.
+    // Begins a body. Drops the body before it if that was not complete.
     fn begin_body(&mut self)
         ensures { self.new ≡ at_body_start }
     {
@@ -151,7 +152,7 @@ impl Reader {
         self.body.clear();
     }
 
-    // Completes a packet with its second checksum digit `low`, and returns the packet. `high` is the first digit.
+    // Completes a packet and returns it. `high` and `low` are the digits of its checksum.
     fn finish(&mut self, alloc: Global, high: u8, low: u8) -> Incoming
         requires { self.old.position ≡ position.SecondDigit high }
         ensures item { Some result ≡ incoming_at self.old low }

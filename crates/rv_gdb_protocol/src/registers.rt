@@ -1,4 +1,4 @@
-//! The bodies of replies that show registers, memory and console output.
+//! The bodies of replies with registers, memory and console output.
 
 ghost use Rattle.std.specs.Prelude.{◌≡◌, ◌++◌, ◌∷◌, OnOk};
 ghost use Rattle.std.specs.List.{flat_map};
@@ -17,7 +17,8 @@ pub fn push_register(out: &mut Vec<u8>, value: u32) -> Result<(), AllocError>
     out.extend_from_slice(&digits)
 }
 
-/// Appends the values of x0 to x31 and the pc: exactly 33 words, since a client that has not read target.xml rejects a longer reply.
+/// Appends the values of x0 to x31 and the pc. There are exactly 33 of them, since a client that has not read target.xml rejects a longer
+/// reply.
 pub fn push_registers(out: &mut Vec<u8>, registers: &[u32; 32], pc: u32) -> Result<(), AllocError>
     ensures { OnOk result (out.new.items ≡ out.old.items ++ registers_text registers.now pc) }
 {
@@ -35,7 +36,7 @@ pub fn push_memory(alloc: Global, out: &mut Vec<u8>, bytes: &[u8]) -> Result<(),
     out.extend_from_slice(digits.as_bytes())
 }
 
-/// Appends the body of a packet with console output, which gdb shows.
+/// Appends the body of a packet with console output, which gdb displays.
 pub fn push_printed(alloc: Global, out: &mut Vec<u8>, bytes: &[u8]) -> Result<(), AllocError>
     ensures { OnOk result (out.new.items ≡ out.old.items ++ 79 ∷ encode_lower bytes.now) }
 {

@@ -1,4 +1,4 @@
-//! The bodies of replies that are equal in every session, and the parts of longer texts.
+//! The bodies of replies that do not depend on the session, and replies with parts of longer texts.
 
 ghost use Rattle.std.specs.Prelude.{◌≡◌, ◌++◌, OnOk, option_copied};
 ghost use Rattle.rv_gdb_protocol.specs.Replies.{fixed_reply, part_text, refusal_text};
@@ -6,10 +6,10 @@ ghost use Rattle.rv_gdb_protocol.specs.Replies.{fixed_reply, part_text, refusal_
 use crate::request::{Part, Refusal, Request};
 use std::alloc::AllocError;
 
-/// The maximum number of bytes in a part of a text. The reply fits in a packet even if each byte must be escaped.
+/// The maximum number of bytes of a text in one reply. The reply fits in a packet even if all of them must be escaped.
 const MAX_PART: usize = 8184;
 
-/// Returns the body of the reply to a request that has an equal reply in every session, or `None` if the reply depends on the session.
+/// Returns the body of the reply to a request if it is the same in every session, or `None` if it depends on the session.
 pub fn fixed_reply(request: &Request) -> Option<&'static str>
     ensures { option_copied result ≡ fixed_reply request.now }
 {
@@ -29,7 +29,7 @@ pub fn fixed_reply(request: &Request) -> Option<&'static str>
     }
 }
 
-/// Returns the body of the reply that refuses a request.
+/// Returns the body of the reply to a refused request.
 pub fn refusal_text(refusal: Refusal) -> &'static str
     ensures { result.now ≡ refusal_text refusal }
 {
@@ -46,7 +46,8 @@ pub fn refusal_text(refusal: Refusal) -> &'static str
     }
 }
 
-/// Appends the body of the reply with a part of a text: `m` and at most 8,184 bytes if more follow, or `l` and the rest of the text.
+/// Appends the body of the reply with a part of a text: `l` and the bytes of the part if the text ends there, or else `m` and the bytes, at
+/// most 8,184.
 #[tactic(auto, unfolding(crate::specs::Replies::part_text))]
 pub fn push_part(out: &mut Vec<u8>, text: &[u8], part: Part) -> Result<(), AllocError>
     ensures { OnOk result (out.new.items ≡ out.old.items ++ part_text text.now part) }

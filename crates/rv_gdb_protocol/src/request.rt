@@ -5,13 +5,13 @@ use rv_base::Bytes;
 /// The request that a packet makes.
 #[derive(Debug, Drop)]
 pub enum Request {
-    /// `qSupported`: the features of the stub.
+    /// `qSupported`: the features that the stub supports.
     Features,
-    /// `QStartNoAckMode`: no acknowledgements after the reply.
+    /// `QStartNoAckMode`: stop acknowledging packets after the reply.
     NoAcknowledgements,
-    /// `?`: the last stop.
+    /// `?`: why the run last stopped.
     LastStop,
-    /// `qXfer:features:read:target.xml:`: a part of the target's description.
+    /// `qXfer:features:read:target.xml:`: a part of the target description.
     Description(Part),
     /// `qXfer:exec-file:read:`: a part of the image's path.
     ImagePath(Part),
@@ -19,55 +19,55 @@ pub enum Request {
     FileSystem,
     /// `vFile:open:` for reading: the file with this path.
     OpenFile(Bytes),
-    /// `vFile:fstat:5`
+    /// `vFile:fstat:5`: the size of the file.
     FileSize,
     /// `vFile:pread:5,`: a part of the file.
     ReadFile(Part),
-    /// `vFile:close:5`
+    /// `vFile:close:5`: close the file.
     CloseFile,
     /// `g`: x0 to x31 and the pc.
     Registers,
-    /// `p`
+    /// `p`: one register.
     Register(Register),
-    /// `G`: the bytes for x0 to x31 and the pc.
+    /// `G`: write x0 to x31 and the pc, which are these bytes.
     WriteRegisters(Bytes),
-    /// `P`
+    /// `P`: write a value to one register.
     WriteRegister(Register, u32),
-    /// `m`
+    /// `m`: read memory.
     ReadMemory(Range),
-    /// `M` and `X`: the bytes to write from this address on.
+    /// `M` and `X`: write these bytes to memory from this address on.
     WriteMemory(u32, Bytes),
-    /// `Z`
+    /// `Z`: set a breakpoint or watchpoint.
     Set(Stoppoint),
-    /// `z`
+    /// `z`: clear a breakpoint or watchpoint.
     Clear(Stoppoint),
     /// `vCont?`: the moves that the stub supports.
     Actions,
-    /// `vCont;`, `c`, `C`, `s`, `S`, `bc`, `bs`
+    /// `vCont;`, `c`, `C`, `s`, `S`, `bc`, `bs`: move in the run.
     Move(Move),
-    /// `qC`: the thread.
+    /// `qC`: the current thread.
     Thread,
     /// `qfThreadInfo`: the first threads.
     FirstThreads,
     /// `qsThreadInfo`: the further threads.
     MoreThreads,
-    /// `qAttached`
+    /// `qAttached`: whether the stub attached to a process that was running already.
     Attached,
-    /// Packets that are accepted and change nothing: `H`, `T`, `!`, `vKill`.
+    /// Packets that are accepted and have no effect: `H`, `T`, `!`, `vKill`.
     Accepted,
     /// `qRcmd,`: the text of a `monitor` command.
     Command(Bytes),
-    /// `D`
+    /// `D`: detach.
     Detach,
-    /// `k`
+    /// `k`: kill the program.
     Kill,
     /// `vRun`: restart from step 0.
     Restart,
-    /// A request that is refused; the refusal determines the reply.
+    /// A request that is refused. The refusal determines the reply.
     Refused(Refusal),
 }
 
-/// A part of a text, by its offset and its length.
+/// A part of a text: the offset of its first byte, and its maximum length.
 #[derive(Clone, Copy, Debug)]
 pub struct Part {
     pub offset: u32,
@@ -81,7 +81,7 @@ pub struct Range {
     pub count: u32,
 }
 
-/// A register, by its number in the target's description.
+/// A register of the target description.
 #[derive(Clone, Copy, Debug)]
 pub enum Register {
     /// 0 to 31: x0 to x31; 32: the pc.
@@ -108,13 +108,13 @@ pub enum WatchKind {
 /// A breakpoint or a watchpoint.
 #[derive(Clone, Copy, Debug)]
 pub enum Stoppoint {
-    /// Before the instruction at this address.
+    /// A breakpoint: stops before the instruction at this address.
     Break(u32),
-    /// At an access of this kind to one of 1 to 65,536 bytes, all of them within the address space.
+    /// A watchpoint: stops at an access of this kind to one of these 1 to 65,536 bytes, which are all in the address space.
     Watch(WatchKind, Range),
 }
 
-/// A move of the session in its run.
+/// A move of a session forwards or backwards in its run.
 #[derive(Clone, Copy, Debug)]
 pub enum Move {
     /// To the next stop.
@@ -132,11 +132,11 @@ pub enum Move {
 pub enum Refusal {
     /// A packet that the stub does not know: the empty reply.
     Unknown,
-    /// Arguments that are not valid for the packet: `E01`.
+    /// The arguments are not valid for the packet: `E01`.
     Failed,
-    /// An unknown annex: `E00`.
+    /// The part belongs to an unknown annex, not to `target.xml`: `E00`.
     OtherAnnex,
-    /// A file other than the image: `F-1,2`.
+    /// A file other than the image, or a call on one that is not supported: `F-1,2`.
     OtherFile,
     /// Malformed arguments: `E.malformed`.
     Malformed,
@@ -144,8 +144,8 @@ pub enum Refusal {
     WouldChange,
     /// A seek to a point that the run does not reach: `E.the run does not reach that point`.
     NotReached,
-    /// More breakpoints and watchpoints than can be kept: `E.too many breakpoints`.
+    /// There are as many breakpoints and watchpoints as can be stored: `E.too many breakpoints`.
     TooManyStoppoints,
-    /// A packet that is too long to be kept: `E.packet too long`.
+    /// The packet is too long to be stored: `E.packet too long`.
     TooLong,
 }

@@ -17,7 +17,7 @@ pub enum Stop {
     Watch(WatchKind, u32),
     /// Ctrl-C.
     Interrupt,
-    /// Step 0, moving backwards.
+    /// The start of the run, reached by moving backwards.
     RunStart,
     /// The exit call.
     Exit,
@@ -27,7 +27,7 @@ pub enum Stop {
     Fault(FaultKind),
 }
 
-/// Appends the body of the stop reply for this stop.
+/// Appends the body of the reply for this stop.
 #[tactic(auto, unfolding(crate::specs::Stops::stop_text))]
 pub fn push_stop(out: &mut Vec<u8>, stop: Stop) -> Result<(), AllocError>
     ensures { OnOk result (out.new.items ≡ out.old.items ++ stop_text stop) }
@@ -43,7 +43,7 @@ pub fn push_stop(out: &mut Vec<u8>, stop: Stop) -> Result<(), AllocError>
     }
 }
 
-// Appends the body of the stop reply for a watchpoint of this kind that was triggered at this address.
+// Appends the body of the stop reply for a watchpoint of this kind that an access at this address triggered.
 #[tactic(auto, unfolding(crate::specs::Stops::stop_text))]
 fn push_watch(out: &mut Vec<u8>, kind: WatchKind, address: u32) -> Result<(), AllocError>
     ensures { OnOk result (out.new.items ≡ out.old.items ++ stop_text (stop.Watch kind address)) }

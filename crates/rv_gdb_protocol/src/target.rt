@@ -1,6 +1,6 @@
-//! The target's description.
+//! The target description.
 
-/// The file target.xml: x0 to x31 and the pc with their packet numbers, 0 to 32, followed by three counts of the run. The `osabi` is
+/// The file target.xml: x0 to x31 and the pc with their numbers in packets, 0 to 32, and then three counts of the run. The `osabi` is
 /// `none`, so that gdb does not treat the image as a Linux program and step with breakpoints of its own.
 pub const TARGET: &str = r#"<?xml version="1.0"?>
 <!DOCTYPE target SYSTEM "gdb-target.dtd">

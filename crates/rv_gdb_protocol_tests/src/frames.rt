@@ -1,10 +1,10 @@
-//! Frames: what is received in bytes, at once and byte by byte, and bodies in their frames.
+//! The framing of packets: what is received, at once and byte by byte, and how bodies are framed.
 use rv_gdb_protocol::{Checksum, Incoming, Reader, push_frame};
 use samples::{cell_of, check_equal, check_line_count};
 use std::alloc::{AllocError, Global};
 use std::test::Fail;
 
-// Packets of a recorded session with LLDB, and bad input; `~` represents 0x03: label | bytes | what is received.
+// Packets of a recorded session with LLDB, and invalid input; `~` is the byte 0x03: label | bytes | what is received.
 const HEARD: &str = "\
 no acknowledgements | +$QStartNoAckMode#b0 | + <QStartNoAckMode>
 why and where | $?#3f$qC#b4 | <?> <qC>
@@ -21,7 +21,7 @@ ctrl-c and again | ~-+ | ^C - +
 unfinished | $qSupported:xml | 
 ";
 
-// Bodies of recorded responses: label | body | frame.
+// Bodies of recorded replies: label | body | packet.
 const FRAMED: &str = "\
 granted | OK | $OK#9a
 not known |  | $#00
@@ -32,7 +32,7 @@ actions | vCont;c;C;s;S;r | $vCont;c;C;s;S;r#0f
 a register | f8000080 | $f8000080#c6
 ";
 
-// Appends a received item, in the form that a row has.
+// Appends a received item, as a row writes it.
 fn push_item(text: &mut String, heard: &Incoming) -> Result<(), Fail> {
     match heard {
         Incoming::Interrupt => text.push_str("^C")?,
@@ -51,7 +51,7 @@ fn push_item(text: &mut String, heard: &Incoming) -> Result<(), Fail> {
     Ok(())
 }
 
-// Returns the items that are received from bytes that arrive in pieces of this length, in the form that a row has.
+// Returns the items that are received from the bytes if they arrive in chunks of this length, as a row writes them.
 fn items_text(alloc: Global, bytes: &[u8], length: usize) -> Result<String, Fail> {
     let mut reader = Reader::new(alloc);
     let mut text = String::new(alloc);
@@ -71,7 +71,7 @@ fn items_text(alloc: Global, bytes: &[u8], length: usize) -> Result<String, Fail
     Ok(text)
 }
 
-// Checks that the bytes of a line are received as the items of the line, however they are divided into pieces.
+// Checks that the items of a line are received from its bytes, whatever the length of the chunks in which they arrive.
 fn check_received(alloc: Global, line: &str) -> Result<(), Fail> {
     let mut bytes = Vec::new(alloc);
     for byte in cell_of(line, 1).as_bytes() {
@@ -87,7 +87,7 @@ fn check_received(alloc: Global, line: &str) -> Result<(), Fail> {
     Ok(())
 }
 
-// Packets are received as they were sent, however their bytes are divided into pieces; invalid input is recognised.
+// Packets are received as they were sent, and invalid input is recognized, whatever the length of the chunks in which the bytes arrive.
 #[test]
 fn packets_are_received(rt: HostRuntime) -> Result<(), Fail> {
     check_line_count(HEARD, 13)?;
@@ -97,7 +97,7 @@ fn packets_are_received(rt: HostRuntime) -> Result<(), Fail> {
     Ok(())
 }
 
-// Each body has the recorded frame.
+// Each body is framed as recorded.
 #[test]
 fn bodies_are_framed(rt: HostRuntime) -> Result<(), Fail> {
     check_line_count(FRAMED, 7)?;

@@ -1,4 +1,4 @@
-//! Tests of `rv_gdb_protocol` with packets that gdb and LLDB sent, and with bad input.
+//! Tests of `rv_gdb_protocol` with packets that gdb and LLDB sent, and with invalid input.
 #![tactic(auto)]
 
 #[cfg(test)]

@@ -1,10 +1,10 @@
-//! Requests: how packets of gdb and LLDB are parsed, and the responses to malformed ones.
+//! How the packets of gdb and LLDB are parsed as requests, and the replies to malformed ones.
 use rv_gdb_protocol::{Part, TARGET, fixed_reply, parse_request, push_part};
 use samples::{cell_of, check_equal, check_line_count};
 use std::alloc::Global;
 use std::test::Fail;
 
-// body | the request that it makes
+// body | the request
 const ASKED: &str = "\
 qSupported:xmlRegisters=i386,arm,mips,arc;multiprocess+ | Features
 QStartNoAckMode | NoAcknowledgements
@@ -63,7 +63,7 @@ D;1 | Detach
 k | Kill
 ";
 
-// body | the response that rejects it; empty if the request is not supported
+// body | the reply that rejects it; empty if the request is not supported
 const REFUSED: &str = "\
  | 
 vMustReplyEmpty | 
@@ -126,7 +126,7 @@ vFile:setfs:1 | F-1,2
 vFile:unlink:2f61 | 
 ";
 
-// body | the response, which is the same in every session
+// body | the reply, which does not depend on the session
 const FIXED: &str = "\
 QStartNoAckMode | OK
 Hg0 | OK
@@ -140,14 +140,14 @@ vFile:setfs:0 | F0
 qSupported | PacketSize=4000;QStartNoAckMode+;ReverseStep+;ReverseContinue+;qXfer:features:read+;qXfer:exec-file:read+
 ";
 
-// Checks that the packet body in a line is parsed as the request in the line.
+// Checks that the body of a line is parsed as the request of the line.
 fn check_request(alloc: Global, line: &str) -> Result<(), Fail> {
     let request = parse_request(alloc, cell_of(line, 0).as_bytes())?;
     let told = format!(in alloc; "{request:?}")?;
     check_equal(line, told.as_str(), cell_of(line, 1))
 }
 
-// Checks that the request with the body in a line has the fixed response in the line.
+// Checks that the request with the body of a line has the reply of the line, which does not depend on the session.
 fn check_reply(alloc: Global, line: &str) -> Result<(), Fail> {
     let request = parse_request(alloc, cell_of(line, 0).as_bytes())?;
     check_equal(
@@ -167,7 +167,7 @@ fn packets_are_parsed(rt: HostRuntime) -> Result<(), Fail> {
     Ok(())
 }
 
-// Malformed packets and requests that are not supported have the expected responses.
+// Malformed packets and unsupported requests have the expected replies.
 #[test]
 fn malformed_packets_are_rejected(rt: HostRuntime) -> Result<(), Fail> {
     check_line_count(REFUSED, 59)?;
@@ -177,7 +177,7 @@ fn malformed_packets_are_rejected(rt: HostRuntime) -> Result<(), Fail> {
     Ok(())
 }
 
-// Requests that have the same response in every session have the expected response.
+// Requests whose reply does not depend on the session have the expected replies.
 #[test]
 fn common_replies_are_expected(rt: HostRuntime) -> Result<(), Fail> {
     check_line_count(FIXED, 10)?;
@@ -187,7 +187,7 @@ fn common_replies_are_expected(rt: HostRuntime) -> Result<(), Fail> {
     Ok(())
 }
 
-// The parts of the target description, each requested from the end of the preceding one, make up the whole description.
+// The target description, requested part by part, each part from the end of the one before, is complete.
 #[test]
 fn parts_make_up_the_description(rt: HostRuntime) -> Result<(), Fail> {
     let mut whole = Vec::new(rt.alloc());

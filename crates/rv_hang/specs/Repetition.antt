@@ -1,4 +1,4 @@
--- A repeated state of a run.
+-- States of a run that occur again.
 use Rattle.std.specs.Prelude.{◌≡◌, ◌≤◌, ◌<◌, ◌+◌, ◌==◌, ◌&&◌, ℕ, Bool, true, if◌then◌else◌, Option, Some, None}
 use Rattle.std.specs.Str.{bytes_eq}
 use Rattle.rv_trace.specs.State.{State}
@@ -19,19 +19,20 @@ pub record IsRepetition (steps : ℕ) (s : State) (r : Repetition) : Type 0 wher
   pub within : r.begin + r.period ≤ steps
   pub matching : state_after (r.begin + r.period) s ≡ state_after r.begin s
 
--- no step of the run from the state `s`, from step `step` up to step `end`, can change the bus
+-- no step of the run from the state `s`, from `step` up to but not including `end`, can change the bus
 abbrev pub AreQuietSteps : ℕ → ℕ → State → Type 0
 AreQuietSteps step end s = (k : ℕ) → step ≤ k → k < end → is_step_quiet (state_after k s) ≡ true
 
--- before step `step`, the run from the state `s` has the pc and the registers that it has after `steps` steps, and no step in between can
--- change the bus
+-- step `step` of the run from the state `s` begins with the pc and the registers that the run has after `steps` steps, and no step in
+-- between can change the bus
 pub record RepeatsAtEnd (steps step : ℕ) (s : State) : Type 0 where
   pub before : step < steps
   pub pc : (state_after step s).pc ≡ (state_after steps s).pc
   pub registers : (state_after step s).registers ≡ (state_after steps s).registers
   pub quiet : AreQuietSteps step steps s
 
--- the repetition is reported to wait for input if and only if a step after its first `r.begin` steps loads from the exhausted input script
+-- the repetition is reported as waiting for input if and only if one of the steps after the first `r.begin` loads from the exhausted input
+-- script
 pub record IsWaitReported (steps : ℕ) (s : State) (r : Repetition) : Type 0 where
   pub load : r.waits_for_input ≡ true → (k : ℕ) × (r.begin ≤ k) × (k < steps) × (reads_script_end (state_after k s) ≡ true)
   pub all : (k : ℕ) → r.begin ≤ k → k < steps → reads_script_end (state_after k s) ≡ true → r.waits_for_input ≡ true
@@ -43,15 +44,15 @@ abbrev pub first_matching : Option MatchingSteps → ℕ → ℕ
 first_matching None step = step
 first_matching (Some matching) step = matching.first
 
--- the first and the last step before which the hart has these values and after which no step can change the bus, or `None` if there is
--- none; updated for step `step`, before which the state is `s`
+-- the first and the last step that begin with these values and after which no step can change the bus, updated for step `step`, which
+-- begins in the state `s`; `None` if there is none
 abbrev pub matching_steps_after : Option MatchingSteps → ℕ → HartValues → State → Option MatchingSteps
 matching_steps_after matching step values s =
     if is_step_quiet s then (if has_values values s
     then Some (record { first = first_matching matching step; last = step }) else matching)
     else None
 
--- the number of steps up to and including the last one that loads from the exhausted input script, updated for step `step`, before which
--- the state is `s`
+-- the number of steps up to and including the last one that loads from the exhausted input script, updated for step `step`, which begins in
+-- the state `s`
 abbrev pub waits_up_to : ℕ → ℕ → State → ℕ
 waits_up_to waited step s = if reads_script_end s then step + 1 else waited

@@ -1,4 +1,5 @@
--- Loads from the console's exhausted input script, recognised before they are executed. Such a load returns all ones and consumes nothing.
+-- Loads from the console's input script when it has no bytes left, recognized before they are executed. Such a load returns all ones and
+-- consumes nothing.
 use Rattle.std.specs.Prelude.{◌==◌, ◌&&◌, Bool, false, length, Option, Some, None}
 use Rattle.rv_trace.specs.declared_instruction.Instr.{Instr}
 use Rattle.rv_trace.specs.declared_instruction.Op.{Op}
@@ -7,7 +8,7 @@ use Rattle.rv_trace.specs.Effect.{address}
 use Rattle.rv_trace.specs.State.{State}
 use Rattle.rv_trace.specs.Steps.{instr_at}
 
--- whether an instruction is a word load at the console's first address while the script has no bytes left
+-- whether an instruction is a word load from the console's first address while the script has no bytes left
 abbrev pub loads_script_end : Op → Instr → State → Bool
 loads_script_end op.Lw i s = address s i == 0x1000_0000 && length s.bus.script == 0
 loads_script_end _ i s = false

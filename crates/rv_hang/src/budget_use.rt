@@ -1,4 +1,4 @@
-//! The analysis of a used-up budget.
+//! How a run used up its budget.
 
 ghost use Rattle.std.specs.Prelude.{◌≡◌, IfOk, MatchOption, true};
 ghost use Rattle.rv_hang.specs.BudgetUse.{IsBudgetUse, IsBudgetUseIn};
@@ -13,20 +13,20 @@ use crate::repetition::{Repetition, find_repetition};
 use rv_trace::{JobImage, Machine, machine_at};
 use std::alloc::{AllocError, Global};
 
-// The maximum number of a run's last steps that are searched.
+// The last steps of a run are searched for a repetition, at most this many.
 const MAX_SEARCHED: u32 = 100_000;
 
-/// The result of the analysis of a used-up budget.
+/// How a run used up its budget.
 #[derive(Clone, Copy)]
 pub enum BudgetUse {
-    /// A state repeats, so the run never ends.
+    /// A state repeats, so the run would never end.
     Repeats(Repetition),
-    /// None of this many last steps begins a loop that changes nothing on the bus.
+    /// No repetition was found among this many last steps.
     NoRepetition(u32),
 }
 
-/// Returns an analysis of how a job's run of `steps` steps used up its budget, or `None` if the job is refused or its run ends earlier.
-/// Takes the time of two more runs.
+/// Returns how a job's run used up its budget of `steps` steps, or `None` if the job is refused or its run does not complete `steps` steps.
+/// Takes as long as two more runs.
 pub fn budget_use_of(
     alloc: Global,
     job: &JobImage<'_>,
@@ -64,8 +64,8 @@ fn values_after(machine: Machine, steps: u32) -> Option<HartValues>
     })
 }
 
-// Returns an analysis of the last steps of a machine's run of `steps` steps, all of which complete: a repetition, or how many steps have
-// none. `end` has the pc and the registers after the last step.
+// Returns how a machine's run of `steps` steps, all of which complete, used up its budget: by a repetition, or without one among the last
+// steps. `end` is the pc and the registers after the last step.
 fn budget_use(machine: Machine, steps: u32, end: &HartValues) -> BudgetUse
     requires all_steps_run { (run_of steps (state_of machine)).steps ≡ steps }
     requires end { has_values end.now (state_after steps (state_of machine)) ≡ true }

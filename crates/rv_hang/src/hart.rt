@@ -1,4 +1,4 @@
-//! A hart's state without the bus: its pc and its registers.
+//! The state of a hart without the bus: its pc and registers.
 
 ghost use Rattle.std.specs.Prelude.{◌≡◌};
 ghost use Rattle.rv_hang.specs.Repetition.{has_values};

@@ -1,4 +1,4 @@
-//! A law about repetitions; it is not executed.
+//! A law of repetitions. It is proved and has no code.
 
 ghost use Rattle.std.specs.Prelude.{◌≡◌, ℕ};
 ghost use Rattle.rv_hang.specs.Repetition.{IsRepetition};

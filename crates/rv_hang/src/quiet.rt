@@ -1,4 +1,4 @@
-//! Steps that leave the bus unchanged.
+//! Steps that do not change the bus.
 
 ghost use Rattle.std.specs.Prelude.{◌≡◌, ◌≤◌, ◌+◌};
 ghost use Rattle.rv_hang.specs.Quiet.{are_outside_console, has_byte_stored, is_instr_quiet, is_step_quiet, is_store_redundant, has_value_stored};
@@ -10,7 +10,7 @@ ghost use Rattle.rv_trace.specs.Bus.{size_of};
 
 use rv_trace::{Bus, Instr, Machine, Op, Width, accessed_address, code_at, instr_of};
 
-/// Whether the next step of a machine leaves the bus unchanged if it completes; false if there is no instruction.
+/// Whether the next step of a machine cannot change the bus. False if there is no instruction at the pc.
 pub(crate) fn is_step_quiet(machine: &Machine) -> bool
     ensures { result ≡ is_step_quiet (state_of machine.now) }
 {
@@ -23,7 +23,7 @@ pub(crate) fn is_step_quiet(machine: &Machine) -> bool
     }
 }
 
-// Whether an instruction of a machine leaves the bus unchanged if it completes.
+// Whether an instruction, executed in this state, cannot change the bus.
 fn is_instr_quiet(machine: &Machine, instr: Instr) -> bool
     requires { IsWellFormed instr }
     ensures { result ≡ is_instr_quiet instr.op instr (state_of machine.now) }
@@ -38,14 +38,15 @@ fn is_instr_quiet(machine: &Machine, instr: Instr) -> bool
     }
 }
 
-// Whether a word load at this address consumes a byte of the input script: it is the console's first address, and a byte is left.
+// Whether a word load from this address consumes a byte of the console's input script: the address is the console's first, and the script
+// has a byte left.
 fn consumes_script(bus: &Bus, addr: u32) -> bool
     ensures { result ≡ consumes_script bus.now addr }
 {
     addr == 0x1000_0000 && bus.script_remaining() != 0
 }
 
-// Whether a store instruction of this width leaves the bus unchanged if it completes.
+// Whether a store instruction of this width, executed in this state, cannot change the bus.
 fn is_store_quiet(machine: &Machine, instr: Instr, width: Width) -> bool
     requires { IsWellFormed instr }
     ensures { result ≡ is_store_redundant (state_of machine.now).bus (address (state_of machine.now) instr) width
@@ -59,14 +60,14 @@ fn is_store_quiet(machine: &Machine, instr: Instr, width: Width) -> bool
     )
 }
 
-// Whether a store would change nothing: it is outside the console, and its bytes already have these values and count as stored.
+// Whether a store would change nothing: it is outside the console, and the bytes there already have these values and are marked as stored.
 fn is_store_redundant(bus: &Bus, addr: u32, width: Width, value: u32) -> bool
     ensures { result ≡ is_store_redundant bus.now addr width value }
 {
     are_outside_console(addr, width) && has_value_stored(bus, addr, width, value)
 }
 
-// Whether the bytes of an access of this width are in the address space, and none of them belongs to the console.
+// Whether all bytes of an access of this width are in the address space and outside the console.
 fn are_outside_console(addr: u32, width: Width) -> bool
     ensures { result ≡ are_outside_console addr (size_of width) }
 {
@@ -74,7 +75,7 @@ fn are_outside_console(addr: u32, width: Width) -> bool
     end <= 0x1000_0000 || (addr >= 0x1000_0010 && end <= 0x1_0000_0000)
 }
 
-// Whether the bytes at the address already have the values that a store of this width and value would give them, and count as stored.
+// Whether the bytes at an address already have the values that a store of this width and value would give them, and are marked as stored.
 fn has_value_stored(bus: &Bus, addr: u32, width: Width, value: u32) -> bool
     requires { addr + size_of width ≤ 0x1_0000_0000 }
     ensures { result ≡ has_value_stored bus.now addr width value }
@@ -94,7 +95,7 @@ fn has_value_stored(bus: &Bus, addr: u32, width: Width, value: u32) -> bool
     }
 }
 
-// Whether the byte at the address already has this value, and counts as stored.
+// Whether the byte at an address already has this value and is marked as stored.
 fn has_byte_stored(bus: &Bus, addr: u32, byte: u32) -> bool
     ensures { result ≡ has_byte_stored bus.now addr byte }
 {

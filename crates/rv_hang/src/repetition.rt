@@ -1,4 +1,4 @@
-//! Repeated states.
+//! States of a run that occur again.
 
 ghost use Rattle.std.specs.Prelude.{◌≡◌, ◌≤◌, ◌<◌, ◌-◌, ℕ, IfSome, is_some, true};
 ghost use Rattle.rv_hang.specs.Repetition.{RepeatsAtEnd, IsRepetition, IsWaitReported, matching_steps_after, has_values, waits_up_to};
@@ -11,20 +11,20 @@ use crate::quiet::is_step_quiet;
 use crate::script_end::reads_script_end;
 use rv_trace::Machine;
 
-/// A repeated state of a run.
+/// A state of a run that occurs again.
 #[derive(Clone, Copy)]
 pub struct Repetition {
     /// The number of steps before its first occurrence.
     pub begin: u32,
     /// The number of steps until it repeats, at least 1.
     pub period: u32,
-    /// Whether some step from its begin on loads from the console's exhausted input script.
+    /// Whether a step after the first occurrence loads from the console's input script when that has no bytes left.
     pub waits_for_input: bool,
 }
 
-/// Returns a repetition of the state after the last of `steps` steps of a machine, all of which complete, or `None` if none is found: the
-/// first of the last `within` steps before which the machine has this state, and the smallest period. `end` has the pc and the registers
-/// after the last step.
+/// Searches the last `within` steps of a run of `steps` steps for the state in which the run ends; all of these steps must complete.
+/// Returns the earliest step before which the machine has this state, with the smallest period, or `None` if there is none. `end` is the pc
+/// and the registers after the last step.
 pub fn find_repetition(
     machine: Machine,
     steps: u32,
@@ -56,15 +56,16 @@ pub fn find_repetition(
     })
 }
 
-// The first and the last step with the pc and the registers of the end, after which no step can change the bus.
+// The first and the last step that begin with the pc and the registers of the end, and after which no step can change the bus.
 #[derive(Clone, Copy)]
 struct MatchingSteps {
     first: u32,
     last: u32,
 }
 
-// Returns the first and the last step before which the hart has the values `end` and after which nothing can change the bus, or `None` if
-// there is none. `matching` has these steps up to step `step`, and `machine` is the machine before this step.
+// Updates the first and the last matching step for step `step`. A step matches if it begins with the pc and the registers `end`, and no
+// step from it on can change the bus. `matching` is the result for the steps before, and `machine` is the machine before `step`. Returns
+// `None` if no step matches.
 fn matching_steps_at(
     matching: Option<MatchingSteps>,
     machine: &Machine,
@@ -83,8 +84,8 @@ fn matching_steps_at(
     Some(MatchingSteps { first, last: step })
 }
 
-// Returns the number of steps up to and including the last one that loads from the exhausted input script. `waited` is this number before
-// step `step`, and `machine` is the machine before this step.
+// Returns the number of steps up to and including the last one that loads from the exhausted input script. `waited` is this number for the
+// steps before `step`, and `machine` is the machine before `step`.
 fn waits_up_to(waited: u32, machine: &Machine, step: u32) -> u32
     requires { step < 0xFFFF_FFFF }
     ensures { result ≡ waits_up_to waited step (state_of machine.now) }

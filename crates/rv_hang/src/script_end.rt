@@ -1,4 +1,4 @@
-//! Loads from the console's exhausted input script.
+//! Loads from the console's input script when it has no bytes left.
 
 ghost use Rattle.std.specs.Prelude.{◌≡◌};
 ghost use Rattle.rv_hang.specs.ScriptEnd.{loads_script_end, reads_script_end};
@@ -20,7 +20,7 @@ pub(crate) fn reads_script_end(machine: &Machine) -> bool
     }
 }
 
-// Whether an instruction of a machine is a word load at the console's first address while the script has no bytes left.
+// Whether an instruction, executed in this state, is a word load from the console's first address while the script has no bytes left.
 fn loads_script_end(machine: &Machine, instr: Instr) -> bool
     requires { IsWellFormed instr }
     ensures { result ≡ loads_script_end instr.op instr (state_of machine.now) }

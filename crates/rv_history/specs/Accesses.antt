@@ -18,7 +18,7 @@ read_access count = Some (record { is_read = true; count = count })
 abbrev pub write_access : ℕ → Option AccessKind
 write_access count = Some (record { is_read = false; count = count })
 
--- whether an instruction reads or writes, and how many bytes, or `None` if it does not access memory
+-- whether an instruction reads or writes, and how many bytes, or `None` if it does not access memory (ISA manual, 2.6)
 abbrev pub access_kind_of : Op → Option AccessKind
 access_kind_of op.Lb = read_access 1
 access_kind_of op.Lbu = read_access 1
@@ -30,11 +30,11 @@ access_kind_of op.Sh = write_access 2
 access_kind_of op.Sw = write_access 4
 access_kind_of _ = None
 
--- the bytes that the instruction `i` reads or writes in the state `s`, or `None` if it does not access memory
+-- the bytes that the instruction `i`, executed in the state `s`, reads or writes, or `None` if it does not access memory
 abbrev pub access_by : State → Instr → Option Access
 access_by s i = option_map (λ kind. record { is_read = kind.is_read; address = address s i; count = kind.count }) (access_kind_of i.op)
 
--- the bytes that the instruction at the pc reads or writes, or `None` if it does not access memory or there is no instruction
+-- the bytes that the instruction at the pc reads or writes, or `None` if it does not access memory, or if there is no instruction
 abbrev pub access_at : State → Option Access
 access_at s = option_and_then (access_by s) (instr_at s)
 

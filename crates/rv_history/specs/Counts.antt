@@ -1,4 +1,4 @@
--- Counts that a run reaches.
+-- The counts of a run that can be sought.
 use Rattle.std.specs.Prelude.{ℕ, ◌≡◌, ◌≢◌, ◌<◌, ◌≤◌, ◌-◌, Option, Some, None, length}
 use Rattle.rv_trace.specs.State.{State}
 use Rattle.rv_trace.specs.Bus.{BusContents}
@@ -7,7 +7,7 @@ use Rattle.rv_history.specs.Places.{last_step}
 use Rattle.rv_history.specs.declared.counts.Count.{Count}
 use Rattle.rv_history.specs.declared.counts.Count.TheVariants as count
 
--- the value of a count: the number of bytes that were printed, or that were consumed from an input script of `script` bytes
+-- the value of a count: the number of printed bytes, or the number of consumed bytes of an input script that had `script` bytes
 abbrev pub count_value : Count → ℕ → BusContents → ℕ
 count_value count.Printed script bus = length bus.output
 count_value count.Taken script bus = script - length bus.script
@@ -22,7 +22,7 @@ pub record IsFirstStepWith (count : Count) (value budget : ℕ) (start : State) 
   pub value_is : count_at count start step ≡ value
   pub first : (j : ℕ) → j < step → count_at count start j ≢ value
 
--- the first step of the run at which the count has this value, or `None` if the run reaches no such step within the budget
+-- the first step of the run at which the count has this value, or `None` if there is none within the budget
 abbrev pub IsFirstStepIfAny : Count → ℕ → ℕ → State → Option ℕ → Type 0
 IsFirstStepIfAny count value budget start (Some step) = IsFirstStepWith count value budget start step
 IsFirstStepIfAny count value budget start None = (j : ℕ) → j ≤ last_step budget start → count_at count start j ≢ value

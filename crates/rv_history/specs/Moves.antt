@@ -1,4 +1,4 @@
--- Where the moves of a debugger stop, in a run within a budget.
+-- Where a debugger's moves end, in a run within a budget.
 use Rattle.std.specs.Prelude.{ℕ, Bool, if◌then◌else◌, ◌≡◌, ◌+◌, ◌<◌, ◌≤◌}
 use Rattle.rv_trace.specs.Run.{run_of}
 use Rattle.rv_trace.specs.State.{State}
@@ -10,7 +10,7 @@ use Rattle.rv_history.specs.declared.outcome.MoveResult.{MoveResult}
 use Rattle.rv_history.specs.declared.outcome.MoveResult.TheVariants as move_result
 use Rattle.rv_history.specs.declared.stops.Stops.{Stops}
 
--- the run ends at the step `step` in this way
+-- `step` is the last step of the run, which ends there with this ending
 abbrev pub IsEndAt : ℕ → State → ℕ → Ending → Type 0
 IsEndAt budget start step ending = (step ≡ last_step budget start) × (ending ≡ (run_of budget start).ending)
 
@@ -24,9 +24,9 @@ IsUninterrupted result = IsInterrupted result → ⊥
 
 -- ---- forwards
 
--- a forward move that began at the step `from` can end with this result at the step `step`: after its first step, a breakpoint or an
--- address outside of the bounds comes first, then the end of the run, then a watchpoint that the next step triggers. An interrupt cannot
--- end the move at a breakpoint or outside of the bounds, because the next move would then skip this stop.
+-- a forward move that began at the step `from` can end at the step `step` with this result: unless it has made no step yet, a breakpoint or
+-- an address outside of the bounds takes precedence, then the end of the run, then a watchpoint that executing the step triggers; an
+-- interrupt cannot end the move at a breakpoint or outside of the bounds, because the next move would pass this stop
 abbrev pub IsForwardStop : Stops → Bounds → ℕ → State → ℕ → ℕ → MoveResult → Type 0
 IsForwardStop stops bounds budget start from step move_result.Breakpoint = (from < step) × IsHaltAt stops bounds start step
 IsForwardStop stops bounds budget start from step (move_result.End ending) =
@@ -38,7 +38,7 @@ IsForwardStop stops bounds budget start from step move_result.RunStart = ⊥
 IsForwardStop stops bounds budget start from step move_result.Interrupted = from < step → IsHaltAt stops bounds start step → ⊥
 
 -- the result of a forward move that has used up the budget: `Breakpoint` if the Bool says that it is at a breakpoint or outside of the
--- bounds, or else the end of the run
+-- bounds, else the end of the run
 abbrev pub result_at_budget : Bool → MoveResult
 result_at_budget halts = if halts then move_result.Breakpoint else move_result.End Budget
 
@@ -55,8 +55,8 @@ pub record IsNextStop (stops : Stops) (bounds : Bounds) (budget : ℕ) (start : 
   pub is_stop : IsForwardStop stops bounds budget start from step outcome
   pub between : (j : ℕ) → from ≤ j → j < step → HasNoForwardStop stops bounds budget start from j
 
--- a single step forwards from the step `from` ends at the step `step` with this result; it does not move at the end of the run, or if it
--- would trigger a watchpoint
+-- a single step forwards from the step `from` ends at the step `step` with this result; at the end of the run, or if the step would trigger
+-- a watchpoint, it is not made
 abbrev pub IsNextStep : Stops → ℕ → State → ℕ → ℕ → MoveResult → Type 0
 IsNextStep stops budget start from step move_result.Done =
     (step ≡ from + 1) × (from < last_step budget start) × (IsTriggerAt stops budget start from → ⊥)
@@ -68,14 +68,14 @@ IsNextStep stops budget start from step move_result.Interrupted = ⊥
 
 -- ---- backwards
 
--- the step that leads to the step `step` triggers a watchpoint
+-- the step before `step` triggered a watchpoint
 pub record IsTriggerBefore (stops : Stops) (budget : ℕ) (start : State) (step : ℕ) : Type 0 where
   pub before : ℕ
   pub step_is : step ≡ before + 1
   pub triggers : IsTriggerAt stops budget start before
 
--- a backward move that began at the step `from` can end with this result at the step `step`: at a breakpoint, except where it began; after
--- a step that triggers a watchpoint; or at step 0. An interrupted move is back where it began.
+-- a backward move that began at the step `from` can end at the step `step` with this result: at a breakpoint, except where it began; after
+-- a step that triggered a watchpoint; or at step 0; an interrupted move is where it began
 abbrev pub IsBackwardStop : Stops → ℕ → State → ℕ → ℕ → MoveResult → Type 0
 IsBackwardStop stops budget start from step move_result.Breakpoint = (step < from) × IsBreakAt stops start step
 IsBackwardStop stops budget start from step move_result.WatchTriggered =
@@ -96,8 +96,8 @@ pub record IsStopBefore (stops : Stops) (budget : ℕ) (start : State) (from ste
   pub is_stop : IsBackwardStop stops budget start from step outcome
   pub between : (j : ℕ) → step < j → j ≤ from → HasNoBackwardStop stops budget start from j
 
--- a single step back from the step `from` ends at the step `step` with this result; it does not move at step 0, or after a step that
--- triggers a watchpoint
+-- a single step back from the step `from` ends at the step `step` with this result; at step 0, or if the preceding step triggered a
+-- watchpoint, it is not made
 abbrev pub IsStepBack : Stops → ℕ → State → ℕ → ℕ → MoveResult → Type 0
 IsStepBack stops budget start from step move_result.Done =
     (from ≡ step + 1) × (IsTriggerAt stops budget start step → ⊥)

@@ -1,8 +1,8 @@
--- What callers see of a history.
+-- A history as contracts see it.
 use Rattle.std.specs.Prelude.{ℕ}
 use Rattle.rv_trace.specs.State.{State}
 
--- what contracts see of a history: the start and the budget of its run, and its current step `step`
+-- a history as contracts see it: the start and the budget of its run, and its current step
 pub record Position : Type 0 where
   pub start : State
   pub budget : ℕ

@@ -1,4 +1,4 @@
--- What a run prints.
+-- The output of a run.
 use Rattle.std.specs.Prelude.{ℕ, List, ◌++◌, ◌≡◌}
 
 -- the text `text` begins with the text `prefix`

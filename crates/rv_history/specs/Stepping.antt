@@ -7,7 +7,8 @@ use Rattle.rv_history.specs.declared.stepping.StepResult.{StepResult}
 use Rattle.rv_history.specs.declared.stepping.StepResult.TheVariants as step_result
 use Rattle.rv_history.specs.declared.stops.Stops.{Stops}
 
--- the result of a step from the state `s` to the state `t`: it ended the run, or it triggered a watchpoint, or it did neither
+-- the result of executing the step from the state `s`, which leads to the state `t`: it ended the run, it triggered a watchpoint, or
+-- neither
 abbrev pub IsStepped : Stops → State → State → StepResult → Type 0
 IsStepped stops s t (step_result.Ended ending) = (step_of s ≡ Err ending) × (t ≡ s)
 IsStepped stops s t step_result.WatchTriggered = (step_of s ≡ Ok t) × TriggersWatch stops s t

@@ -26,24 +26,24 @@ AreUnwatched stops = (stops.watches ≡ []) × ((stops.reads ≡ []) × (stops.a
 abbrev pub AreEmpty : Stops → Type 0
 AreEmpty stops = (stops.breaks ≡ []) × AreUnwatched stops
 
--- whether an address is outside of the bounds of a move: below the first one, or at or above the second one
+-- whether an address is outside of the bounds of a move: below `low`, or at or above `high`
 abbrev pub is_outside : Bounds → ℕ → Bool
 is_outside bounds.All pc = false
 is_outside (bounds.Within low high) pc = nat_lt pc low || nat_le high pc
 
--- whether a forward move stops before an instruction at this address: at a breakpoint, or outside of the bounds
+-- whether a forward move stops before an instruction at this address: there is a breakpoint, or the address is outside of the bounds
 abbrev pub halts_at : Stops → Bounds → ℕ → Bool
 halts_at stops bounds pc = is_break stops pc || is_outside bounds pc
 
--- the bytes of a watchpoint's range, without bytes outside the regions
+-- the bytes of a watchpoint's range; those outside the regions are left out
 abbrev pub watch_bytes : BusContents → Watch → List ℕ
 watch_bytes bus watch = filter_map (fin.get bus.memory) (range_with_len watch.address watch.count)
 
--- the bytes that are watched for changes, in the order of the watchpoints, without bytes outside the regions
+-- the bytes that are watched for changes, in the order of the watchpoints; those outside the regions are left out
 unfoldable pub watched_bytes : Stops → BusContents → List ℕ
 watched_bytes stops bus = flat_map (watch_bytes bus) stops.watches
 
--- the address of the first watchpoint whose bytes differ between the two buses, or `None` if none differ
+-- the address of the first watchpoint whose bytes differ between two buses, or `None` if there is none
 unfoldable pub first_differing : List Watch → BusContents → BusContents → Option ℕ
 first_differing [] first second = None
 first_differing (watch ∷ rest) first second =
@@ -64,19 +64,19 @@ abbrev pub hit_or : (ℕ → WatchHit) → Option ℕ → Option WatchHit → Op
 hit_or make_hit None fallback = fallback
 hit_or make_hit (Some address) fallback = Some (make_hit address)
 
--- the first read watchpoint, or else the first access watchpoint, that an access triggers, or `None` if there is no access or it triggers
--- none
+-- the first read watchpoint that the access triggers, or else the first access watchpoint, or `None` if it triggers neither or there is no
+-- access
 abbrev pub hit_by_access : Stops → Option Access → Option WatchHit
 hit_by_access stops None = None
 hit_by_access stops (Some access) = hit_or watch_hit.Read (first_read access stops.reads)
     (hit_or watch_hit.Access (first_hit access stops.accesses) None)
 
--- the first read watchpoint, or else the first access watchpoint, that the instruction at the pc triggers, or `None` if it triggers none
+-- the first read watchpoint that the instruction at the pc triggers, or else the first access watchpoint, or `None` if it triggers neither
 abbrev pub access_hit : Stops → State → Option WatchHit
 access_hit stops s = hit_by_access stops (access_at s)
 
--- the first watchpoint that a step from the state `s` to the state `t` triggers, or `None`: watchpoints for changes come first, then for
--- reads, then for accesses
+-- the first watchpoint that the step from the state `s` to `t` triggers, or `None` if it triggers none; watchpoints for changes come first,
+-- then those for reads, then those for accesses
 abbrev pub first_triggered : Stops → State → State → Option WatchHit
 first_triggered stops s t = hit_or watch_hit.Change (first_differing stops.watches s.bus t.bus) (access_hit stops s)
 

@@ -6,11 +6,11 @@ use Rattle.rv_trace.specs.State.{State}
 use Rattle.rv_history.specs.declared.machine_at.MachineAt.{MachineAt}
 use Rattle.rv_history.specs.Places.{IsReached}
 
--- the run from `start` reaches the step of the machine, and the machine is in the state of the run there
+-- the machine is in the state that the run from `start` has at its step
 abbrev pub IsAt : State → MachineAt → Type 0
 IsAt start at = IsReached start at.step (state_of at.machine)
 
--- for each of the machines, the run from `start` reaches its step, and it is in the state of the run there
+-- each of the machines is in the state that the run from `start` has at its step
 abbrev pub AreStates : State → List MachineAt → Type 0
 AreStates start machines = All (IsAt start) machines
 
@@ -18,6 +18,6 @@ AreStates start machines = All (IsAt start) machines
 abbrev pub AreDecreasing : List MachineAt → Type 0
 AreDecreasing machines = AllPairs (λ first second. second.step < first.step) machines
 
--- each machine of the list that is not after the step `step` is not after the step `last`
+-- `last` is at least the step of each machine that is not after the step `step`
 abbrev pub IsLastUpTo : List MachineAt → ℕ → ℕ → Type 0
 IsLastUpTo machines step last = All (λ (machine : MachineAt). machine.step ≤ step → machine.step ≤ last) machines

@@ -25,7 +25,7 @@ pub(crate) struct Access {
     pub count: u32,
 }
 
-/// Returns the bytes that the instruction at a machine's pc reads or writes, or `None` if it does not access memory or there is no
+/// Returns the bytes that the instruction at a machine's pc reads or writes, or `None` if it does not access memory, or if there is no
 /// instruction.
 pub(crate) fn access_at(machine: &Machine) -> Option<Access>
     ensures { result ≡ access_at (state_of machine.now) }
@@ -35,7 +35,7 @@ pub(crate) fn access_at(machine: &Machine) -> Option<Access>
     access_by(machine, instr)
 }
 
-// Returns the bytes that an instruction of a machine reads or writes, or `None` if it does not access memory.
+// Returns the bytes that an instruction, executed in the machine's state, reads or writes, or `None` if it does not access memory.
 fn access_by(machine: &Machine, instr: Instr) -> Option<Access>
     requires { IsWellFormed instr }
     ensures { result ≡ access_by (state_of machine.now) instr }
@@ -75,7 +75,7 @@ impl Access {
     }
 }
 
-// Returns the first address of a range, and the address after its last.
+// Returns the first address of a range, and the address after its last one.
 fn bounds(address: u32, count: u32) -> (u64, u64)
     ensures { (result.0 ≡ address) × (result.1 ≡ address + count) }
 {

@@ -4,7 +4,7 @@ ghost use Rattle.std.specs.Prelude.{◌≡◌, ◌↔◌, IsTrue};
 ghost use Rattle.rv_history.specs.Stops.{is_outside};
 ghost use Rattle.rv_history.specs.declared.bounds.Bounds.TheVariants.{All};
 
-/// The addresses within which a forward move stays: it stops before an instruction at any other address.
+/// The addresses within which a forward move stays: it stops before an instruction outside of them.
 #[derive(Clone, Copy)]
 pub enum Bounds {
     /// All addresses.

@@ -1,4 +1,4 @@
-//! Searches for breakpoints only. Between two of them a run goes at full speed.
+//! Searches for breakpoints when there are no watchpoints. Between breakpoints a run goes at full speed.
 
 ghost use Rattle.std.specs.Prelude.{◌≡◌, ◌≤◌, ◌<◌, ℕ, IfNone, IfOk, IfSome, false, true};
 ghost use Rattle.rv_trace.specs.Machine.{state_of};
@@ -21,7 +21,7 @@ use crate::stops::Stops;
 use rv_trace::Machine;
 use std::alloc::{AllocError, Global};
 
-/// Returns where a forward move without bounds ends, if there are no watchpoints, and the result of the move. Runs at full speed between
+/// Returns where a forward move ends and why, if it has no bounds and there are no watchpoints. The run goes at full speed between
 /// breakpoints.
 pub(crate) fn next_breakpoint<I: Interrupt>(
     alloc: Global,
@@ -56,8 +56,8 @@ pub(crate) fn next_breakpoint<I: Interrupt>(
     Ok(forward_move.arrived(outcome))
 }
 
-/// Searches the run from the last stored state up to the step `end` for its last breakpoint, if there are no watchpoints. Returns what it
-/// found, or `None` if an interrupt ends the search.
+/// Searches a part of the run for its last breakpoint, if there are no watchpoints: from the last stored state before the step `end` up to
+/// this step. Returns what it found, or `None` if an interrupt ended the search.
 pub(crate) fn search_breakpoints<I: Interrupt>(
     alloc: Global,
     checkpoints: &Checkpoints,
@@ -88,7 +88,7 @@ pub(crate) fn search_breakpoints<I: Interrupt>(
     Ok(Some(SearchedPart { begin, last }))
 }
 
-// Executes at most `max_steps` steps, none of them at a breakpoint, and returns how many it executed. Takes the time of a run.
+// Executes steps, at most `max_steps`, until the next one would be at a breakpoint. Returns how many it executed. Runs at full speed.
 fn run_between(machine: &mut Machine, stops: &Stops, max_steps: u32) -> u32
     ensures run { run_of result (state_of machine.old)
         ≡ record { ending = Budget; steps = result; state = state_of machine.new } }

@@ -8,7 +8,7 @@ use crate::machine_at::MachineAt;
 use std::alloc::{AllocError, Global};
 use std::marker::Model;
 
-/// A bounded number of states of a run, at strictly decreasing steps.
+/// A list of stored states of a run, latest first, with a maximum length.
 #[derive(Drop)]
 pub(crate) struct CheckpointList {
     capacity: usize,
@@ -32,7 +32,7 @@ impl Model for CheckpointList {
 }
 
 impl CheckpointList {
-    /// Returns an empty list with room for `capacity` states, but at least for one.
+    /// Returns an empty list that can store `capacity` states, but at least one.
     pub(crate) fn new(alloc: Global, capacity: usize) -> CheckpointList
         ensures { result ≡ [] }
     {
@@ -42,12 +42,12 @@ impl CheckpointList {
         }
     }
 
-    /// Whether the list has no room for another state.
+    /// Whether the list is at its maximum length.
     pub(crate) fn is_full(&self) -> bool {
         self.capacity <= self.items.len()
     }
 
-    /// Returns the last stored state at or before the step `step`, or `None` if there is none.
+    /// Returns the latest stored state at or before the step `step`, or `None` if there is none.
     pub(crate) fn last_up_to(&self, step: u32) -> Option<&MachineAt>
         ensures state { (start : State) → AreStates start self.now → IfSome result (λ at. IsAt start at.now) }
         ensures before { IfSome result (λ at. at.now.step ≤ step) }
@@ -70,7 +70,7 @@ impl CheckpointList {
         }
     }
 
-    /// Stores a state. Drops the states at its step and later ones, and the earliest state if there is no room.
+    /// Stores a state. Drops the stored states at its step or later, and the earliest one if the list would be too long.
     pub(crate) fn store(&mut self, at: MachineAt) -> Result<(), AllocError>
         ensures { (start : State) → AreStates start self.old → IsAt start at → AreStates start self.new }
     {

@@ -1,4 +1,4 @@
-//! A run with some of its states stored.
+//! A run of which some states are stored.
 
 ghost use Rattle.std.specs.Prelude.{◌≡◌, ◌≤◌, ◌<◌, [], IfOk, IfSome};
 ghost use Rattle.rv_trace.specs.Machine.{state_of};
@@ -12,10 +12,10 @@ use rv_trace::{Bus, Ending, Machine};
 use std::alloc::{AllocError, Global};
 use std::marker::Model;
 
-// The initial interval, in steps, at whose multiples states are stored.
+// The initial distance, in steps, between stored states. It is doubled when there is no room for more of them.
 const INTERVAL: u32 = 1 << 22;
 
-// The maximum distance, in steps, from a stored state to the end of a backward move, of a seek, or of a move that stopped at a watchpoint.
+// The maximum distance, in steps, from a stored state to where a backward move, a seek or a move to a watchpoint ended.
 const MAX_NEAR_DISTANCE: u32 = 1 << 16;
 
 // The default memory limit of a session, in megabytes.
@@ -23,30 +23,31 @@ const DEFAULT_MEGABYTES: u32 = 256;
 
 const MEGABYTE: usize = 1 << 20;
 
-// How many megabytes of the memory limit are reserved for everything except machines.
+// How many megabytes of the memory limit are set aside for everything except machines.
 const RESERVED_MEGABYTES: usize = 32;
 
-// The number of machines that exist during a move without being stored.
+// The number of machines that exist during a move in addition to the stored ones.
 const UNSTORED_MACHINES: usize = 4;
 
-// One in this many of the states is stored before the end of the last backward move, seek or move to a watchpoint.
+// One of this many stored states is near the end of the last backward move, seek or move to a watchpoint.
 const NEAR_SHARE: usize = 8;
 
-// How many bytes of memory a machine takes for each byte of its regions.
+// The number of bytes that a machine takes for each byte of its regions.
 const BYTES_PER_REGION_BYTE: usize = 3;
 
-/// The maximum number of bytes that a machine takes in addition to those for its regions.
+/// The maximum number of bytes that a machine takes beside those for its regions.
 const MACHINE_OVERHEAD: usize = 1 << 18;
 
-/// A run from its start, with some of its states stored so that a move need not begin at the start. Which states are stored affects only
-/// where an interrupt ends a move.
+/// A run from its start. Some of its states are stored, so that a move need not execute the run from the start again. Which states are
+/// stored has no effect on results, except for where an interrupt ends a move.
 #[derive(Drop)]
 pub(crate) struct Checkpoints {
     start: Start,
     interval: u32,
-    // States at multiples of the interval.
+    // The stored states at multiples of the interval.
     coarse: CheckpointList,
-    // States before the ends of backward moves, seeks and moves to watchpoints, each half as far from there as the preceding one.
+    // The stored states before the end of a backward move, a seek or a move to a watchpoint; each is half as far from there as the one
+    // before it.
     near: CheckpointList,
 }
 
@@ -71,7 +72,7 @@ impl Checkpoints {
     ghost use Rattle.rv_history.specs.StoredStates.{IsAt};
     ghost use Rattle.rv_history.specs.Starts.{start_of};
 
-    /// Returns a run that has stored no state except its start.
+    /// Returns a run of which only the start is stored.
     pub(crate) fn new(alloc: Global, start: Start) -> Checkpoints
         ensures { result ≡ start_of start }
     {
@@ -100,7 +101,7 @@ impl Checkpoints {
         &self.start
     }
 
-    /// Returns a machine with the last stored state at or before the step `step`.
+    /// Returns a copy of the machine in the latest stored state at or before the step `step`.
     pub(crate) fn before(&self, alloc: Global, step: u32) -> Result<MachineAt, AllocError>
         ensures { IfOk result (λ at. IsAt self.now at × (at.step ≤ step)) }
     {
@@ -111,7 +112,8 @@ impl Checkpoints {
         Ok(MachineAt { step: 0, machine })
     }
 
-    /// Returns `at` or a copy of the last stored state at or before the step `step`, whichever is later; `at` is not after that step.
+    /// Returns `at`, or a copy of the machine in the latest stored state at or before the step `step` if that is later. `at` must not be
+    /// after `step`.
     pub(crate) fn later_of(
         &self,
         alloc: Global,
@@ -129,7 +131,7 @@ impl Checkpoints {
         }
     }
 
-    // Returns the last stored state at or before the step `step`, or `None` if only the start is.
+    // Returns the latest stored state at or before the step `step`, or `None` if only the start is stored.
     fn last_stored(&self, step: u32) -> Option<&MachineAt>
         ensures state { IfSome result (λ at. IsAt self.now at.now) }
         ensures before { IfSome result (λ at. at.now.step ≤ step) }
@@ -152,8 +154,8 @@ impl Checkpoints {
         Ok(at.machine)
     }
 
-    /// Returns the machine after `step` steps, or at the end of the run if that comes first, and how a run of at most `step` steps ends.
-    /// Stores states on the way.
+    /// Returns the machine after `step` steps, or at the end of the run if that comes first, and how a run with the budget `step` ends.
+    /// Stores states while it runs.
     pub(crate) fn reach(
         &mut self,
         alloc: Global,
@@ -175,7 +177,7 @@ impl Checkpoints {
         Ok((at, ending))
     }
 
-    /// Returns the machine at the step `step`, which the run reaches. Stores states on the way.
+    /// Returns the machine at the step `step`, which the run must reach. Stores states while it runs.
     pub(crate) fn machine_at_step(
         &mut self,
         alloc: Global,
@@ -190,7 +192,7 @@ impl Checkpoints {
         Ok(at)
     }
 
-    /// Stores the state of a machine if it is at a multiple of the interval and not stored yet.
+    /// Stores the state of a machine if it is at a multiple of the interval and not stored already.
     pub(crate) fn store_if_multiple(
         &mut self,
         alloc: Global,
@@ -205,7 +207,7 @@ impl Checkpoints {
         self.store(alloc, at)
     }
 
-    // Returns the next step after `at`, up to `step`, at which a state must be stored, or `None` if there is none.
+    // Returns the next step after `at`, up to `step`, whose state should be stored, or `None` if there is none.
     fn next_step_to_store(&self, at: u32, step: u32) -> Option<u32>
         requires { at ≤ step }
         ensures { IfSome result (λ next. (at < next) × (next ≤ step)) }
@@ -221,7 +223,8 @@ impl Checkpoints {
         None
     }
 
-    // Stores the state of a machine. Doubles the interval if there is no room for another state at its multiples.
+    // Stores the state of a machine. If the list for multiples of the interval is full, first doubles the interval and drops the states
+    // that are no longer at multiples of it.
     fn store(&mut self, alloc: Global, at: &MachineAt) -> Result<(), AllocError>
         requires { IsAt self.old at.now }
         ensures { self.new ≡ self.old }
@@ -239,8 +242,8 @@ impl Checkpoints {
     }
 }
 
-// Returns two empty lists of states for a machine with this bus, which have as much room as the memory limit allows: the first is for
-// states at multiples of the interval, the second for states before the ends of backward moves, seeks and moves to watchpoints.
+// Returns two empty lists of states for machines with this bus, which together use the memory limit: the first is for states at multiples
+// of the interval, the second for states near the end of a backward move, a seek or a move to a watchpoint.
 fn empty_checkpoint_lists(
     alloc: Global,
     bus: &Bus,
@@ -257,7 +260,7 @@ fn empty_checkpoint_lists(
     (coarse, CheckpointList::new(alloc, near))
 }
 
-// Returns an upper bound of the size in bytes of a machine with this bus.
+// Returns an upper bound for the size of a machine with this bus, in bytes.
 fn machine_size(bus: &Bus) -> usize
     ensures { 0 < result }
 {

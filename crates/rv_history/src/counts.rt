@@ -1,4 +1,4 @@
-//! Counts that a run reaches.
+//! The counts of a run that can be sought.
 
 ghost use Rattle.std.specs.Prelude.{◌≡◌, ◌≤◌, IfOk};
 ghost use Rattle.rv_history.specs.Counts.{IsFirstStepIfAny, count_value};
@@ -9,17 +9,17 @@ use crate::stepping::execute_step;
 use rv_trace::Bus;
 use std::alloc::{AllocError, Global};
 
-/// What is counted in a run.
+/// A count that only grows in a run.
 #[derive(Clone, Copy)]
 pub enum Count {
     /// The bytes that the program has printed.
     Printed,
-    /// The bytes that the program has consumed from the input script.
+    /// The bytes of the input script that the program has consumed.
     Taken,
 }
 
-/// Returns the first step at which a count has this value, or `None` if the run reaches no such step. Takes the time of the run up to
-/// there.
+/// Returns the first step at which a count has this value, or `None` if there is none within the budget. Executes the run from the start up
+/// to there.
 pub(crate) fn first_step_with(
     alloc: Global,
     start: &Start,

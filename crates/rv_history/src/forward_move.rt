@@ -19,7 +19,7 @@ use std::alloc::{AllocError, Global};
 /// A forward move in progress.
 #[derive(Drop)]
 pub(crate) struct ForwardMove {
-    /// The step where the move began.
+    /// The step at which the move began.
     pub from: u32,
     pub budget: u32,
     pub bounds: Bounds,
@@ -27,7 +27,7 @@ pub(crate) struct ForwardMove {
     pub at: MachineAt,
 }
 
-/// The machine at the step where a forward move ended, and the result of the move.
+/// Where a forward move ended, with the machine there, and why.
 #[derive(Drop)]
 pub(crate) struct MoveEnd {
     pub at: MachineAt,
@@ -35,7 +35,7 @@ pub(crate) struct MoveEnd {
 }
 
 impl ForwardMove {
-    /// Returns the end of the move at its current step, with this result.
+    /// Returns the end of the move, at its current step and with this result.
     pub(crate) fn arrived(self, outcome: MoveResult) -> MoveEnd
         ensures { result ≡ record { at = self.at; outcome = outcome } }
     {
@@ -45,7 +45,8 @@ impl ForwardMove {
         }
     }
 
-    /// Whether the move must stop at its current step: it is after its first step, and at a breakpoint or outside of the bounds.
+    /// Whether the move must stop at its current step: it has made at least one step, and the pc is at a breakpoint or outside of the
+    /// bounds.
     pub(crate) fn is_stopped(&self, stops: &Stops) -> bool
         ensures { result ≡ (nat_lt self.now.from self.now.at.step
             && halts_at stops.now self.now.bounds (state_of self.now.at.machine).pc) }
@@ -53,7 +54,7 @@ impl ForwardMove {
         self.from < self.at.step && halts_at(stops, self.bounds, self.at.machine.pc())
     }
 
-    /// Returns the result of a move that has used up the budget: that it is at a breakpoint or outside of the bounds, or else the end of
+    /// Returns the result of a move that has used up the budget: `Breakpoint` if it must stop at its current step, and otherwise the end of
     /// the run.
     pub(crate) fn result_at_budget(&self, stops: &Stops) -> MoveResult
         ensures { result ≡ result_at_budget (nat_lt self.now.from self.now.at.step
@@ -66,8 +67,8 @@ impl ForwardMove {
         }
     }
 
-    /// Returns whether an interrupt ends the move at its current step. At the end of a slice, the state may be stored, and the interrupt is
-    /// polled if the move has lasted for at least a slice.
+    /// Returns whether an interrupt ends the move at its current step. Does nothing within a slice. At the end of a slice, stores the state
+    /// if it is due, and polls the interrupt if the move is at least as long as a slice.
     pub(crate) fn store_and_poll<I: Interrupt>(
         &self,
         alloc: Global,
@@ -87,7 +88,7 @@ impl ForwardMove {
     }
 }
 
-// Whether a forward move stops before an instruction at this address: at a breakpoint, or outside of the bounds.
+// Whether a forward move stops before an instruction at this address: there is a breakpoint, or the address is outside of the bounds.
 fn halts_at(stops: &Stops, bounds: Bounds, pc: u32) -> bool
     ensures { result ≡ halts_at stops.now bounds pc }
 {

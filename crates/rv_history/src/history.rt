@@ -1,4 +1,4 @@
-//! A position in a run, and the moves from it.
+//! A debugger's position in a run, and the moves from it.
 
 ghost use Rattle.std.specs.Prelude.{◌≡◌, ◌+◌, ◌-◌, ◌<◌, ◌≤◌, ◌↔◌, IfOk, IsTrue, MatchBool, OnErr, if◌then◌else◌, true};
 ghost use Rattle.rv_trace.specs.Machine.{state_of};
@@ -21,7 +21,7 @@ use std::alloc::{AllocError, Global};
 use std::marker::Model;
 
 /// A position in the run from a start within a budget, and the machine there. Moves do not change the run. Their results do not depend on
-/// which states of the run are stored, except for where an interrupt ends a move.
+/// which states are stored, except for where an interrupt ends a move.
 #[derive(Drop)]
 pub struct History {
     checkpoints: Checkpoints,
@@ -66,8 +66,8 @@ impl History {
         })
     }
 
-    /// Limits the memory to `megabytes`, from 64 to 4,096. The default is 256. With more memory, backward moves repeat fewer steps. Drops
-    /// all stored states.
+    /// Limits the memory to `megabytes`, from 64 to 4,096. The default is 256. The more memory, the fewer steps a backward move executes
+    /// again. Drops all stored states.
     pub fn limit_memory(&mut self, alloc: Global, megabytes: u32)
         ensures { self.new ≡ self.old }
     {
@@ -89,8 +89,8 @@ impl History {
         &self.machine
     }
 
-    /// Moves forwards to the next stop or to the end of the run, and returns why the move ended. It does not stop at a breakpoint at its
-    /// current step, and can begin outside of the bounds. After an interrupt it is at a later step, up to which there is no stop.
+    /// Moves forwards to the next stop or to the end of the run, and returns why it ended. A breakpoint at the first step does not count,
+    /// and the move can begin outside of the bounds. After an interrupt, the move has passed no stop.
     pub fn go_on<I: Interrupt>(
         &mut self,
         alloc: Global,
@@ -119,8 +119,8 @@ impl History {
         Ok(end.outcome)
     }
 
-    /// Moves one step forwards, and returns why the move ended. Does not move at the end of the run, or if the step would trigger a
-    /// watchpoint.
+    /// Moves one step forwards, and returns why the move ended. At the end of the run, or if the step would trigger a watchpoint, the step
+    /// is not made.
     pub fn step_forward(&mut self, alloc: Global, stops: &Stops) -> Result<MoveResult, AllocError>
         ensures step { IfOk result (IsNextStep stops.now self.old.budget self.old.start self.old.step self.new.step) }
         ensures only_moved { self.new ≡ record self.old { step = self.new.step } }
@@ -141,8 +141,8 @@ impl History {
         }
     }
 
-    /// Moves back to the previous stop, or to the start of the run, and returns why the move ended. After an interrupt it is where it
-    /// began.
+    /// Moves back to the previous stop, or to the start of the run, and returns why it ended. An interrupted move leaves the position
+    /// unchanged.
     pub fn go_back<I: Interrupt>(
         &mut self,
         alloc: Global,
@@ -161,7 +161,7 @@ impl History {
             };
             return self.finish_search(alloc, begin);
         }
-        // From now on there are stored states near the current step, and the parts of the search are short.
+        // This stores states near the current step, so that the parts of the search are short.
         let _ = self.checkpoints.reach(alloc, self.step)?;
         let search_end = stop_before(alloc, &self.checkpoints, self.step, stops, interrupt)?;
         if let MoveResult::Interrupted = search_end.outcome {
@@ -170,8 +170,8 @@ impl History {
         self.finish_search(alloc, search_end)
     }
 
-    /// Moves one step back, and returns why the move ended. Does not move at the start of the run, or after a step that triggers a
-    /// watchpoint.
+    /// Moves one step back, and returns why the move ended. At the start of the run, or if the preceding step triggered a watchpoint, the
+    /// step is not made.
     pub fn step_back(&mut self, alloc: Global, stops: &Stops) -> Result<MoveResult, AllocError>
         ensures step { IfOk result (IsStepBack stops.now self.old.budget self.old.start self.old.step self.new.step) }
         ensures only_moved { self.new ≡ record self.old { step = self.new.step } }
@@ -240,7 +240,7 @@ impl History {
         stops.first_triggered(alloc, &self.machine, &ahead)
     }
 
-    /// Returns the first watchpoint that the preceding step triggered, or `None` if it triggered none.
+    /// Returns the first watchpoint that the preceding step triggered, or `None` if it triggered none, or if there is no preceding step.
     pub fn watch_hit_by_last_step(
         &self,
         alloc: Global,
@@ -256,7 +256,7 @@ impl History {
         stops.first_triggered(alloc, &behind, &self.machine)
     }
 
-    // Moves to the step where a search ended, and returns the result of the search.
+    // Moves to the step at which a search ended, and returns its result.
     fn finish_search(
         &mut self,
         alloc: Global,

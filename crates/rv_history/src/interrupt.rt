@@ -6,10 +6,10 @@ ghost use Rattle.std.specs.Prelude.{◌≡◌, IsTrue, true};
 pub trait Interrupt {
     ghost use Rattle.std.specs.Prelude.{Bool};
 
-    // Whether it requested an interrupt.
+    // Whether an interrupt was raised.
     ghost was_raised: { Self → Bool };
 
-    /// Whether the current move must be interrupted.
+    /// Whether the current move must end.
     fn is_raised(&mut self) -> bool
         ensures { IsTrue result → was_raised self.new ≡ true };
 }

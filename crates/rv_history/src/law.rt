@@ -1,4 +1,4 @@
-//! Laws about moves; none of them is executed.
+//! Laws of moves. They are proved and not executed.
 
 ghost use Rattle.std.specs.Prelude.{◌≡◌, ◌≤◌, ℕ};
 ghost use Rattle.rv_history.specs.Counts.{IsFirstStepWith};
@@ -11,8 +11,8 @@ ghost use Rattle.rv_history.specs.declared.stops.Stops.{Stops};
 ghost use Rattle.rv_trace.specs.State.{State};
 ghost use Rattle.rv_trace.specs.Trace.{state_after};
 
-/// Proves that the result of a move that is not interrupted, and the step where it ends, depend only on the run, the step where it begins,
-/// and the breakpoints and watchpoints.
+/// Proves that the result of a move that is not interrupted, and the step at which it ends, depend only on the run, the step at which it
+/// begins, and the breakpoints and watchpoints.
 pub fn moves_are_determined()
     ensures ahead { (stops : Stops) (bounds : Bounds) (budget from p q : ℕ) (start : State) (first second : MoveResult)
         → IsNextStop stops bounds budget start from p first → IsNextStop stops bounds budget start from q second

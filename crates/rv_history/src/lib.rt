@@ -1,8 +1,8 @@
 //! The steps of a run, and a debugger's moves among them, forwards and backwards.
 //!
-//! Runs are deterministic, so the state after any number of steps can be computed again by a run from the start, or by a shorter one from a
-//! stored state. A [`History`] is at a step of a run, and moves to where a search for the next or the previous stop ends: a breakpoint, a
-//! step that triggers a watchpoint ([`Stops`]), or an end of the run. Moves do not change the run.
+//! Runs are deterministic, so the state after any number of steps can be computed again: by a run from the start, or by a shorter one from
+//! a stored state. A [`History`] has a position in a run, and moves to where a search for the next or the previous stop ends: at a
+//! breakpoint, at a step that triggers a watchpoint ([`Stops`]), or at either end of the run. Moves do not change the run.
 #![tactic(auto)]
 
 mod access;
@@ -34,5 +34,5 @@ pub use outcome::MoveResult;
 pub use start::Start;
 pub use stops::{Stops, Watch, WatchHit};
 
-// From the crates below: what this interface names, and what its callers need with it.
+// Re-exports from lower crates: the types in this interface, and what its callers need with them.
 pub use rv_trace::{Bus, Ending, Isa, Machine, Map, Misaligned, Region, Sequence};

@@ -9,7 +9,7 @@ ghost use Rattle.rv_history.specs.StoredStates.{IsAt};
 use rv_trace::{Ending, Machine};
 use std::alloc::{AllocError, Global};
 
-/// A machine, and how many steps of its run are completed.
+/// A machine, and the number of steps of its run that are completed.
 #[derive(Drop)]
 pub(crate) struct MachineAt {
     pub step: u32,
@@ -17,7 +17,7 @@ pub(crate) struct MachineAt {
 }
 
 impl MachineAt {
-    /// Returns a copy of the machine with its own memory, which does not change when the original runs.
+    /// Returns a copy of the machine with its own memory.
     pub(crate) fn try_clone(&self, alloc: Global) -> Result<MachineAt, AllocError>
         ensures step { IfOk result (λ at. at.step ≡ self.now.step) }
         ensures state { IfOk result (λ at. state_of at.machine ≡ state_of self.now.machine) }
@@ -29,7 +29,8 @@ impl MachineAt {
         })
     }
 
-    /// Runs the machine to the step `step`, or to the end of the run if that comes first. Returns how this run ended.
+    /// Runs the machine to the step `step`, or to the end of the run if that comes first. Returns how this run, with `step` as its budget,
+    /// ended.
     pub(crate) fn run_to_step(&mut self, step: u32) -> Ending
         requires { self.old.step ≤ step }
         ensures run { (start : State) → IsAt start self.old → run_of step start

@@ -7,19 +7,19 @@ use rv_trace::Ending;
 pub enum MoveResult {
     /// The step was completed.
     Done,
-    /// The pc is at a breakpoint, or outside the bounds of a forward move.
+    /// The pc is at a breakpoint or outside the bounds of a forward move.
     Breakpoint,
-    /// A watchpoint is triggered: by the next step after a forward move, by the preceding step after a backward move.
+    /// A watchpoint was triggered: after a forward move, by the step that would come next; after a backward move, by the preceding step.
     WatchTriggered,
-    /// The run ends here.
+    /// The end of the run was reached.
     End(Ending),
-    /// The run begins here.
+    /// The start of the run was reached.
     RunStart,
     /// An interrupt ended the move.
     Interrupted,
 }
 
-/// Where a search ended, and its result.
+/// The step at which a search ended, and why.
 #[derive(Clone, Copy)]
 pub(crate) struct SearchEnd {
     pub step: u32,

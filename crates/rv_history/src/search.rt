@@ -19,7 +19,7 @@ use crate::stops::Stops;
 use rv_trace::Ending;
 use std::alloc::{AllocError, Global};
 
-/// Returns where a forward move ends, with the machine there and the result of the move. Stores states on the way.
+/// Returns where a forward move ends, with the machine there, and why. Stores states while it runs.
 pub(crate) fn next_stop<I: Interrupt>(
     alloc: Global,
     checkpoints: &mut Checkpoints,
@@ -35,7 +35,7 @@ pub(crate) fn next_stop<I: Interrupt>(
     if !forward_move.bounds.is_unbounded() {
         return next_stop_by_steps(alloc, checkpoints, forward_move, stops, interrupt);
     }
-    // Without stops to look for, the run goes at full speed.
+    // If there are no breakpoints and watchpoints, the run goes at full speed.
     if stops.is_empty() {
         return run_to_end(alloc, checkpoints, forward_move, interrupt);
     }
@@ -69,7 +69,7 @@ fn next_stop_by_steps<I: Interrupt>(
         match step_with_watched_bytes(alloc, &mut forward_move.at.machine, stops, &mut watched)? {
             StepResult::Ended(ending) => return Ok(forward_move.arrived(MoveResult::End(ending))),
             StepResult::WatchTriggered => {
-                // The machine is after the step, and the move before it.
+                // The machine is after the step that triggers the watchpoint, but the move ends before it.
                 let at = checkpoints.machine_at_step(alloc, forward_move.at.step)?;
                 let outcome = MoveResult::WatchTriggered;
                 return Ok(MoveEnd { at, outcome });
@@ -82,7 +82,7 @@ fn next_stop_by_steps<I: Interrupt>(
     Ok(forward_move.arrived(outcome))
 }
 
-// Returns where a forward move ends, as [`next_stop`] does, if there are no breakpoints, watchpoints or bounds: at the end of the run,
+// Returns where a forward move ends, as [`next_stop`] does, if there are no breakpoints, watchpoints and bounds: at the end of the run,
 // unless it is interrupted.
 fn run_to_end<I: Interrupt>(
     alloc: Global,

@@ -1,4 +1,4 @@
-//! Backward searches in a run. It is repeated in parts, each from a stored state, the last part first.
+//! Backward searches in a run. Parts of the run are executed again, each from a stored state, beginning with the last part.
 
 ghost use Rattle.std.specs.Prelude.{◌≡◌, ◌≤◌, ◌<◌, ℕ, IfNone, IfOk, IfSome, true};
 ghost use Rattle.rv_trace.specs.Run.{run_of};
@@ -18,14 +18,14 @@ use std::alloc::{AllocError, Global};
 /// The result of searching one part of a run.
 #[derive(Clone, Copy)]
 pub(crate) struct SearchedPart {
-    /// The step where the part begins.
+    /// The step at which the part begins.
     pub begin: u32,
     /// The last stop in the part; `None` if there is none.
     pub last: Option<SearchEnd>,
 }
 
-/// Returns where a backward move from the step `from` ends, and its result, for any budget within which the run reaches this step. Polls
-/// for an interrupt after each part of the search, once it has searched at least a slice.
+/// Returns where a backward move from the step `from`, which the run must reach, ends and why. Polls for an interrupt after each part of
+/// the run, once at least a slice was searched.
 pub(crate) fn stop_before<I: Interrupt>(
     alloc: Global,
     checkpoints: &Checkpoints,
@@ -61,8 +61,8 @@ pub(crate) fn stop_before<I: Interrupt>(
     })
 }
 
-// Searches the run from the last stored state up to the step `end` for its last stop. Returns what it found, or `None` if an interrupt ends
-// the search.
+// Searches a part of the run for its last stop: from the last stored state before the step `end` up to this step. Returns what it found, or
+// `None` if an interrupt ended the search.
 fn search_part<I: Interrupt>(
     alloc: Global,
     checkpoints: &Checkpoints,
@@ -93,8 +93,8 @@ fn search_part<I: Interrupt>(
     Ok(Some(SearchedPart { begin, last }))
 }
 
-/// Returns the last stop after the search has passed the step `step`, or `None` if it has found none. `last` is the last stop before,
-/// `is_break` is whether there is a breakpoint at `step`, and `stepped` is the result of the step from there.
+/// Returns the last stop found once the search has passed the step `step`, or `None` if there is none. `last` is the last stop before
+/// `step`, `is_break` says whether there is a breakpoint at `step`, and `stepped` is the result of executing the step.
 pub(crate) fn last_stop_after(
     last: Option<SearchEnd>,
     step: u32,
@@ -122,7 +122,7 @@ pub(crate) fn last_stop_after(
     }
 }
 
-/// Returns where a single step back from the step `from` ends, and its result, for any budget within which the run reaches this step.
+/// Returns where a single step back from the step `from`, which the run must reach, ends and why.
 pub(crate) fn step_before(
     alloc: Global,
     checkpoints: &Checkpoints,

@@ -7,11 +7,11 @@ ghost use Rattle.rv_trace.specs.State.{is_misaligned};
 use rv_trace::{Bus, Isa, Machine};
 use std::alloc::{AllocError, Global};
 
-/// The start of a run: a hart at reset, and a bus, of which each run gets a copy.
+/// The start of a run: a hart at reset and a bus, which is copied for each run.
 #[derive(Drop)]
 pub struct Start {
     pub bus: Bus,
-    /// The entry address: even, and a multiple of 4 in a set without 16-bit instructions.
+    /// The entry address. It is even, and a multiple of 4 if the instruction set has no 16-bit instructions.
     pub entry: u32,
     pub isa: Isa,
     pub ghost even: { entry % 2 ≡ 0 },

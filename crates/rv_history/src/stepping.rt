@@ -21,7 +21,7 @@ pub(crate) enum StepResult {
     NotTriggered,
 }
 
-/// Executes a step of a machine, and returns whether it completed, and whether it triggered a watchpoint. After an error the step may have
+/// Executes a machine's next step, and returns whether it completed and whether it triggered a watchpoint. After an error the step may have
 /// been executed.
 pub(crate) fn step_watched(
     alloc: Global,
@@ -34,7 +34,8 @@ pub(crate) fn step_watched(
     step_with_watched_bytes(alloc, machine, stops, &mut watched)
 }
 
-/// Executes a step of a machine, as [`step_watched`] does, given the watched bytes, which it updates after the step.
+/// Executes a machine's next step, as [`step_watched`] does. `watched` has the watched bytes before the step, and is updated if the step
+/// changes them.
 pub(crate) fn step_with_watched_bytes(
     alloc: Global,
     machine: &mut Machine,
@@ -59,8 +60,8 @@ pub(crate) fn step_with_watched_bytes(
     Ok(StepResult::NotTriggered)
 }
 
-/// Executes one step of a machine. Returns `None` if it completes, and otherwise the end of the run, with the machine unchanged. This is a
-/// run of one step, since a second caller of the machine's loop would slow down every run of the program.
+/// Executes a machine's next step. Returns `None` if it completes, and otherwise how the run ended, with the machine unchanged. It is a run
+/// of one step, since a second caller of the function that executes an instruction would slow down every run of the program.
 pub(crate) fn execute_step(machine: &mut Machine) -> Option<Ending>
     ensures { MatchOption result (step_of (state_of machine.old) ≡ Ok (state_of machine.new))
         (λ e. (step_of (state_of machine.old) ≡ Err e) × (state_of machine.new ≡ state_of machine.old)) }

@@ -5,7 +5,7 @@ ghost use Rattle.std.specs.Prelude.{◌≡◌, ◌≤◌, ◌+◌, ◌^◌, ◌+
 use rv_trace::{Bus, Machine, Sequence};
 use std::alloc::{AllocError, Global};
 
-/// A range of watched bytes, all of them within the address space.
+/// A range of watched bytes, which are all in the address space.
 #[derive(Clone, Copy)]
 pub struct Watch {
     pub address: u32,
@@ -13,8 +13,8 @@ pub struct Watch {
     pub ghost within: { address + count ≤ 2 ^ 32 },
 }
 
-/// The breakpoints and watchpoints of a run: it stops before the instructions at some addresses, and where a step changes, reads or
-/// accesses a watched byte. Bytes in no region never change.
+/// The breakpoints and watchpoints of a run. A move stops before an instruction at a breakpoint, and where a step changes, reads or
+/// accesses a watched byte. Bytes outside the regions never change.
 #[derive(Drop)]
 pub struct Stops {
     pub breaks: Sequence<u32>,
@@ -26,7 +26,7 @@ pub struct Stops {
     pub accesses: Sequence<Watch>,
 }
 
-/// How a watchpoint was triggered, and the watchpoint's address.
+/// How a watchpoint was triggered; the number is the first address of the watchpoint's range.
 #[derive(Clone, Copy)]
 pub enum WatchHit {
     /// A byte changed.
@@ -64,7 +64,7 @@ impl Stops {
         self.reads.as_slice().is_empty() && self.accesses.as_slice().is_empty()
     }
 
-    /// Invalidates the cached instructions at breakpoints, so that a run from the decode cache stops there.
+    /// Invalidates the cached instructions at breakpoints, so that a run that executes only cached instructions stops there.
     pub(crate) fn invalidate_breakpoints(&self, machine: &mut Machine)
         ensures state { state_of machine.new ≡ state_of machine.old }
         ensures invalidated { (pc : ℕ) → is_break self.now pc ≡ true → IsCached machine.new.kept pc → ⊥ }
@@ -81,7 +81,7 @@ impl Stops {
         self.breaks.as_slice().contains(&pc)
     }
 
-    /// Returns the bytes that are watched for changes, in the order of the watchpoints, without bytes outside the regions.
+    /// Returns the bytes that are watched for changes, in the order of the watchpoints; bytes outside the regions are left out.
     #[tactic(auto, unfolding(crate::specs::Stops::watched_bytes))]
     pub(crate) fn watched_bytes(&self, alloc: Global, bus: &Bus) -> Result<Vec<u8>, AllocError>
         ensures { IfOk result (λ bytes. bytes.items ≡ watched_bytes self.now bus.now) }
@@ -93,7 +93,7 @@ impl Stops {
         Ok(bytes)
     }
 
-    /// Whether the bytes that are watched for changes equal `bytes`, without bytes outside the regions. Does not allocate.
+    /// Whether the bytes that are watched for changes, without those outside the regions, equal `bytes`. Does not allocate.
     #[tactic(auto, unfolding(crate::specs::Stops::watched_bytes))]
     pub(crate) fn have_bytes(&self, bus: &Bus, bytes: &[u8]) -> bool
         ensures { IsTrue result ↔ (watched_bytes self.now bus.now ≡ bytes.now) }
@@ -108,7 +108,7 @@ impl Stops {
         seen == bytes.len()
     }
 
-    /// Returns the address of the first watchpoint whose bytes differ between the two buses, or `None` if none differ.
+    /// Returns the address of the first watchpoint whose bytes differ between two buses, or `None` if there is none.
     #[tactic(auto, using(crate::proofs::Differing::differing_at), unfolding(crate::specs::Stops::first_differing))]
     pub(crate) fn differing_watch(
         &self,
@@ -134,8 +134,8 @@ impl Stops {
 impl Watch {
     ghost use Rattle.rv_history.specs.Stops.{watch_bytes};
 
-    // Compares the bytes of the watchpoint's range that are in regions with the bytes after the index `from`. Returns the index after them
-    // if they are equal, or `None` otherwise.
+    // Compares the watchpoint's bytes, without those outside the regions, with `bytes` from the index `from` on. Returns the index after
+    // them if they are equal; otherwise `None`.
     fn index_after_bytes(&self, bus: &Bus, bytes: &[u8], from: usize) -> Option<usize>
         requires { from ≤ length bytes.now }
         ensures within { IfSome result (λ end. end ≤ length bytes.now) }
@@ -155,7 +155,7 @@ impl Watch {
         Some(seen)
     }
 
-    // Appends the bytes of the watchpoint's range that are in regions.
+    // Appends the watchpoint's bytes, without those outside the regions.
     fn push_bytes(&self, bytes: &mut Vec<u8>, bus: &Bus) -> Result<(), AllocError>
         ensures { OnOk result (bytes.new.items ≡ bytes.old.items ++ watch_bytes bus.now self.now) }
     {

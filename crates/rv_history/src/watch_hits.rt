@@ -12,12 +12,12 @@ use rv_trace::Machine;
 use std::alloc::{AllocError, Global};
 
 impl Stops {
-    /// Returns the first read watchpoint, or else the first access watchpoint, that the instruction at a machine's pc triggers, or `None`
-    /// if it triggers none.
+    /// Returns the first read watchpoint that the instruction at a machine's pc triggers, or else the first access watchpoint, or `None` if
+    /// it triggers neither.
     pub(crate) fn access_hit(&self, machine: &Machine) -> Option<WatchHit>
         ensures { result ≡ access_hit self.now (state_of machine.now) }
     {
-        // An instruction is decoded only if it matters.
+        // The instruction is decoded only if this is needed.
         if self.have_no_access_watchpoints() {
             return None;
         }
@@ -29,8 +29,8 @@ impl Stops {
         Some(WatchHit::Access(address))
     }
 
-    /// Returns the first watchpoint that a step triggers, given the machine before it and the machine after it, or `None` if it triggers
-    /// none: watchpoints for changes come first, then for reads, then for accesses.
+    /// Returns the first watchpoint that a step triggers, or `None` if it triggers none. Watchpoints for changes come first, then those for
+    /// reads, then those for accesses. `before` and `after` are the machine before and after the step.
     pub(crate) fn first_triggered(
         &self,
         alloc: Global,

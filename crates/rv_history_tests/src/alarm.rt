@@ -1,7 +1,7 @@
-//! Interrupts for the tests.
+//! An interrupt for the tests.
 use rv_history::Interrupt;
 
-/// An interrupt that is raised only at one poll, counted from 1.
+/// An interrupt that is raised at only one poll, or never.
 #[derive(Drop)]
 pub struct Alarm {
     asked: u32,
@@ -10,7 +10,7 @@ pub struct Alarm {
 }
 
 impl Alarm {
-    /// Creates an interrupt that is raised when it is polled for the `rises_at`-th time.
+    /// Creates an interrupt that is raised when it is polled for the `rises_at`-th time, counted from 1.
     pub fn at(rises_at: u32) -> Alarm {
         Alarm {
             asked: 0,
@@ -28,7 +28,7 @@ impl Alarm {
 impl Interrupt for Alarm {
     ghost was_raised = { λ alarm. alarm.was_raised };
 
-    // Counts a poll, and returns whether the interrupt is raised at it.
+    // Counts the poll, and returns whether the interrupt is raised at it.
     fn is_raised(&mut self) -> bool {
         self.asked = self.asked.saturating_add(1);
         self.was_raised = self.asked == self.rises_at;

@@ -9,8 +9,9 @@ use std::test::Fail;
 // A program that adds 1 to x5 forever, and stores nothing.
 const CODE: &str = "00128293 ffdff06f X";
 
-// No instruction is at 80000040, and each move is longer than 2^16 steps, after which it polls the interrupt. label | budget | stops | the
-// poll at which the interrupt is raised | where it stops the move | where the move ends when it is continued
+// Each move is longer than 2^16 steps, after which it polls the interrupt. There is no instruction at 80000040, so a breakpoint there is
+// never reached. label | budget | stops | the poll at which the interrupt is raised | where it stops the move | where the move ends when it
+// is continued
 const AHEAD: &str = "\
 a run, at once | 66000 | none | 1 | 65536 interrupted | 66000 budget
 a run, later | 132000 | none | 2 | 131072 interrupted | 132000 budget
@@ -19,7 +20,7 @@ past a breakpoint, later | 132000 | b80000040 | 2 | 131072 interrupted | 132000 
 past a watch | 66000 | w80000100,4 | 1 | 65536 interrupted | 66000 budget
 ";
 
-// As `AHEAD`, but starting at the budget: an interrupted move back ends where it began.
+// As `AHEAD`, but for moves back from the end of the budget; an interrupted move back ends where it began.
 const BACK: &str = "\
 back to the start | 132000 | b80000040 | 2 | 132000 interrupted | 0 begin
 back past a watch | 132000 | w80000100,4 | 1 | 132000 interrupted | 0 begin
@@ -32,8 +33,8 @@ enum Direction {
     Back,
 }
 
-// Returns a history at the step where a move in this direction begins: at the start of the run for a move forward, and at the end of its
-// budget for a move back.
+// Returns a history at the step where a move in this direction begins: the start of the run for a move forward, and the end of the budget
+// for a move back.
 fn history_before_move(alloc: Global, direction: Direction, budget: u32) -> Result<History, Fail> {
     let mut history = history_of(alloc, CODE, budget)?;
     if let Direction::Back = direction {
@@ -58,7 +59,7 @@ fn make_move(
     Ok(format!(in alloc; "{} {told}", history.current_step())?)
 }
 
-// Checks that an interrupted move, when continued, ends where it would have ended without the interrupt.
+// Checks that an interrupted move ends, when it is continued, where it would have ended without the interrupt.
 fn check_moves_from(
     alloc: Global,
     history: &mut History,
@@ -73,7 +74,7 @@ fn check_moves_from(
     check_equal(line, met.as_str(), cell_of(line, 5))
 }
 
-// Checks the interrupted move of a line in this direction.
+// Checks that the interrupt of a line stops a move in this direction.
 fn check_interrupted(alloc: Global, direction: Direction, line: &str) -> Result<(), Fail> {
     let stops = stops_of(alloc, cell_of(line, 2))?;
     let budget = cell_of(line, 1).parse()?;
@@ -91,7 +92,7 @@ fn forward_moves_are_interrupted(rt: HostRuntime) -> Result<(), Fail> {
     Ok(())
 }
 
-// An interrupt stops a move back where it began; the move can be made again.
+// An interrupt stops a move back, which then ends where it began; the move can be made again.
 #[test]
 fn backward_moves_are_interrupted(rt: HostRuntime) -> Result<(), Fail> {
     check_line_count(BACK, 2)?;

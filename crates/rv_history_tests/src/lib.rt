@@ -1,4 +1,4 @@
-//! Tests of `rv_history`: moves in hand-written runs.
+//! Tests of `rv_history`: moves in runs of small programs.
 #![tactic(auto)]
 
 #[cfg(test)]

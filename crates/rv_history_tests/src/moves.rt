@@ -1,4 +1,4 @@
-//! Moves among the steps of a run, by the lines of a table.
+//! Moves through the steps of a run, by the lines of a table.
 use crate::alarm::Alarm;
 use rv_history::{
     Bounds, Bus, Ending, History, Isa, Map, Misaligned, MoveResult, Region, Sequence, Start, Stops,
@@ -8,8 +8,8 @@ use samples::{cell_of, check_equal, check_line_count, hex_of, numbers};
 use std::alloc::{AllocError, Global};
 use std::test::Fail;
 
-// In this program x5 is 80000100, and x6 counts down from 3: the store at 8000000c is in steps 3, 6 and 9, with the values 3, 2 and 1. The
-// exit call is step 13, which does not complete.
+// In this program x5 is 80000100, and x6 counts down from 3. The store at 8000000c is executed in steps 3, 6 and 9, and stores 3, 2 and 1.
+// The exit call is step 13, which does not complete.
 const CODE: &str = "00000297 10028293 00300313 0062a023 fff30313 fe031ce3 X";
 
 // The low byte of the pc at each step: 00 04 08, then three times 0c 10 14, then 18 and 1c. label | budget | breakpoints and watchpoints |
@@ -71,9 +71,9 @@ pub fn stops_of(alloc: Global, text: &str) -> Result<Stops, Fail> {
     })
 }
 
-/// Returns the history of a program's run within a budget, at its start.
+/// Returns the history of a run of a program within a budget, at the start of the run.
 pub fn history_of(alloc: Global, code: &str, budget: u32) -> Result<History, Fail> {
-    // It is small because each move copies it.
+    // The memory is small because each move copies it.
     let map = Map::of(&[Region {
         base: 0x8000_0000,
         size: 0x1000,
@@ -107,7 +107,7 @@ pub fn found_text(alloc: Global, found: MoveResult) -> Result<String, AllocError
     }
 }
 
-// Makes a move or a seek. Returns as text, for a move, the step at which it ended and the reason; for a seek, whether the run reaches the
+// Makes a move or a seek. Returns as text, for a move, the step at which it ended and why; for a seek, whether the run reaches the
 // requested step, and the step afterwards.
 fn move_result(
     alloc: Global,
@@ -154,7 +154,7 @@ fn check_moves(alloc: Global, line: &str) -> Result<(), Fail> {
     Ok(())
 }
 
-// Moves stop at the expected steps, for the expected reasons.
+// Moves end at the expected steps, for the expected reasons.
 #[test]
 fn moves_stop(rt: HostRuntime) -> Result<(), Fail> {
     check_line_count(MOVES, 14)?;
@@ -164,7 +164,7 @@ fn moves_stop(rt: HostRuntime) -> Result<(), Fail> {
     Ok(())
 }
 
-// After a seek to a step, the history's machine is in the state at this step.
+// After a seek to a step, the machine has the state of this step.
 #[test]
 fn registers_are_of_the_place(rt: HostRuntime) -> Result<(), Fail> {
     let alloc = rt.alloc();

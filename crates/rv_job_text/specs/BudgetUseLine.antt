@@ -16,11 +16,11 @@ use Rattle.rv_text.specs.Numbers.{count_text}
 abbrev pub waiting_text : Bool → List ℕ
 waiting_text waits_for_input = if waits_for_input then codes ", waiting for input after the end of the script" else []
 
--- the length of a loop, as in `step` for 1 and `5 steps` for 5
+-- the length of a loop as it follows `every`: `step` for 1, and `5 steps` for 5
 abbrev pub period_text : ℕ → List ℕ
 period_text period = if period == 1 then codes "step" else count_text period (codes "step")
 
--- the line about a run that never ends: after how many steps it begins to repeat, and the length of its loop
+-- the line about a run that would never end: after how many steps it begins to repeat, how long the loop is, and whether it waits for input
 unfoldable pub repetition_line : Repetition → List ℕ
 repetition_line r = line (codes "     never ends: after " ++ count_text r.begin (codes "step") ++ codes " it repeats every "
     ++ period_text r.period ++ waiting_text r.waits_for_input)
@@ -34,17 +34,17 @@ unfoldable pub changes_line : ℕ → ℕ → List ℕ
 changes_line steps within = line (codes "     the budget may be too small: no endless loop was found in "
     ++ last_or_all_text steps within ++ count_text within (codes "step"))
 
--- the line about how a run of this many steps used up its budget; empty if the run was not analysed
+-- the line that says how a run of this many steps used up its budget; empty if there is no analysis
 abbrev pub budget_use_line : ℕ → Option BudgetUse → List ℕ
 budget_use_line steps None = []
 budget_use_line steps (Some (Repeats r)) = repetition_line r
 budget_use_line steps (Some (NoRepetition within)) = changes_line steps within
 
--- `budget_use` is an analysis of the run if it used up its budget, or `None` for any other end
+-- `budget_use` says how the run used up its budget; it is `None` if the run ended in another way
 abbrev pub IsBudgetUseAfter : RowEnd → PlanView → Job → ℕ → Option BudgetUse → Type 0
 IsBudgetUseAfter Budget plan job steps budget_use = IsBudgetUseIn plan job steps budget_use
 IsBudgetUseAfter _ plan job steps budget_use = budget_use ≡ None
 
--- `budget_use` is an analysis of the run that the row describes if it used up its budget, or `None` for any other end
+-- `budget_use` says how the run that the row describes used up its budget; it is `None` if the run ended in another way
 abbrev pub IsBudgetUseOfRow : PlanView → Job → Row → Option BudgetUse → Type 0
 IsBudgetUseOfRow plan job row budget_use = IsBudgetUseAfter row.ending plan job row.steps budget_use

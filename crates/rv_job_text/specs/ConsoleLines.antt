@@ -19,7 +19,7 @@ use Rattle.rv_job_text.specs.ConsoleTail.{is_line_feed}
 
 -- ---- lines
 
--- the lines of a text, each with its line feed, which only the last one may lack
+-- the lines of a text, each with its line feed; the last one may lack it
 unfoldable pub complete_lines : List ℕ → List (List ℕ)
 complete_lines [] = []
 complete_lines (byte ∷ rest) =
@@ -34,14 +34,16 @@ first_or_empty (line ∷ lines) = line
 abbrev pub equal_line_count : List ℕ → List ℕ → ℕ
 equal_line_count actual expected = common_prefix_len bytes_eq (complete_lines actual) (complete_lines expected)
 
--- the number of leading lines that differ, each from the line with its number in the other text; at most the given number
+-- the number of leading lines that differ before the first pair of equal ones, where each line is compared with the line of its number in
+-- the other text; at most the given number
 unfoldable pub differing_line_count : ℕ → List (List ℕ) → List (List ℕ) → ℕ
 differing_line_count zero actual expected = 0
 differing_line_count (suc max) actual expected =
     if bytes_eq (first_or_empty actual) (first_or_empty expected) then 0
     else 1 + differing_line_count max (drop 1 actual) (drop 1 expected)
 
--- the lines before the index `index` are equal in both texts; at this index they differ, or one text has no line
+-- `index` is the first line that differs: the lines before it are equal in both texts, and at this index they differ, or one text has no
+-- line
 pub record DifferFirstAt (index : ℕ) (actual expected : List (List ℕ)) : Type 0 where
   pub before : take index actual ≡ take index expected
   pub differ : first_or_empty (drop index actual) ≢ first_or_empty (drop index expected)
@@ -52,7 +54,7 @@ pub record DifferFirstAt (index : ℕ) (actual expected : List (List ℕ)) : Typ
 abbrev pub begins_character : ℕ → Bool
 begins_character byte = nat_lt byte 0x80 || nat_le 0xC0 byte
 
--- the number of bytes in the first `max` characters of a text
+-- the number of bytes in the first `max` characters of a text, or its length if it has no more characters
 unfoldable pub characters_len : ℕ → List ℕ → ℕ
 characters_len max [] = 0
 characters_len zero (byte ∷ rest) = if begins_character byte then 0 else 1 + characters_len zero rest
@@ -67,35 +69,35 @@ max_line_characters = 160
 abbrev pub max_bytes_before_difference : ℕ
 max_bytes_before_difference = 32
 
--- the offset from which a line with a difference at the offset `offset` is shown: 0, or, if the line is long, an offset shortly before the
--- difference
+-- the offset from which a line with a difference at `offset` is shown: 0, or, if the line is long, the start of a character shortly before
+-- the difference
 abbrev pub shown_offset : ℕ → List ℕ → ℕ
 shown_offset offset text =
     if characters_len max_line_characters text == length text then 0
     else (offset - max_bytes_before_difference
     + position_or_len begins_character (drop (offset - max_bytes_before_difference) text))
 
--- a line without its first `begin` bytes, after two dots unless `begin` is 0, up to the maximum number of characters
+-- a line from the offset `begin` on, up to the maximum number of characters, with two dots before it unless `begin` is 0
 abbrev pub text_shown_from : ℕ → List ℕ → List ℕ
 text_shown_from begin text = (if begin == 0 then [] else codes "..")
     ++ printable_text (take (characters_len max_line_characters (drop begin text)) (drop begin text))
 
--- a line that has a difference at the offset `offset`; if it is long, only the part around the difference
+-- a line that has a difference at `offset`; if it is long, only the part around the difference
 unfoldable pub shown_line : ℕ → List ℕ → List ℕ
 shown_line offset text = text_shown_from (shown_offset offset text) text
 
--- the note that a line has no line feed; empty if it has one
+-- the note that a line does not end with a line feed; empty if it does
 abbrev pub missing_newline_note : List ℕ → List ℕ
 missing_newline_note text =
     if position_or_len is_line_feed text == length text then codes "     \\ no newline at end\n" else []
 
--- the line `own` of one text after a margin, shown around its first difference from the line `other` of the other text
+-- the line `own` of one text after a margin; if it is long, it is shown around its first difference from the line `other` of the other text
 unfoldable pub diff_line : List ℕ → List ℕ → List ℕ → List ℕ
 diff_line margin own other =
     line (margin ++ shown_line (common_prefix_len nat_eq own other) (before_first is_line_feed own)) ++ missing_newline_note own
 
--- at most the given number of the first lines `own` of one text, each after a margin and shown around its difference from the line of the
--- other text
+-- the first `count` of the lines `own`, each after a margin; a long line is shown around its first difference from the line with its number
+-- in `other`
 unfoldable pub diff_lines : List ℕ → ℕ → List (List ℕ) → List (List ℕ) → List ℕ
 diff_lines margin zero own other = []
 diff_lines margin (suc count) [] other = []
@@ -116,17 +118,17 @@ max_differing_lines = 3
 abbrev pub larger : ℕ → ℕ → ℕ
 larger n m = if nat_lt n m then m else n
 
--- the line that says at which line the console differs from the expected text `source`, and how many lines there are
+-- the heading of the difference: `number` is the first line that differs, and `count` the number of lines of the longer text
 abbrev pub difference_heading : List ℕ → ℕ → ℕ → List ℕ
 difference_heading source number count = codes "     console differs from " ++ source ++ codes " at line "
     ++ decimal number ++ codes " of " ++ decimal count ++ codes ":\n"
 
--- the last lines of the `equal` leading lines of a text, which are equal in both texts
+-- the last few of the `equal` leading lines of a text, which are equal in both texts
 abbrev pub equal_lines : ℕ → List (List ℕ) → List ℕ
 equal_lines equal lines = let earlier = equal - max_equal_lines in
     diff_lines (codes "       ") (equal - earlier) (drop earlier lines) []
 
--- the lines that differ at the beginning of two texts: first the expected ones, then the actual ones
+-- the lines that differ at the start of two texts: first the expected ones, then the actual ones
 abbrev pub differing_lines : List (List ℕ) → List (List ℕ) → List ℕ
 differing_lines actual expected = let count = differing_line_count max_differing_lines actual expected in
     diff_lines (codes "     - ") count expected actual ++ diff_lines (codes "     + ") count actual expected
@@ -135,7 +137,7 @@ differing_lines actual expected = let count = differing_line_count max_differing
 abbrev pub lines_around : ℕ → List (List ℕ) → List (List ℕ) → List ℕ
 lines_around equal actual expected = equal_lines equal actual ++ differing_lines (drop equal actual) (drop equal expected)
 
--- the difference between the console `actual` and the expected text `expected`, line by line; `source` is the name of the expected text
+-- the line-by-line difference between the console `actual` and the text `expected`; `source` is the name of the expected text
 unfoldable pub console_lines : List ℕ → List ℕ → List ℕ → List ℕ
 console_lines source actual expected = let equal = equal_line_count actual expected in
     difference_heading source (equal + 1) (larger (length (complete_lines actual)) (length (complete_lines expected)))
@@ -154,19 +156,20 @@ pub record NamedText : Type 0 where
   pub source : List ℕ
   pub text : List ℕ
 
--- the expected console text and its name, or `None` if no console is expected; it is from the list, or from a file with the contents `file`
+-- the expected console text and its name, or `None` if no console is expected; the text is in the list, or it is `file`, the contents of
+-- the file that the list names
 abbrev pub expected_console : Option ExpectedConsole → Option (List ℕ) → Option NamedText
 expected_console None file = None
 expected_console (Some (console.Text text)) file = Some record { source = codes "the expected text"; text = text }
 expected_console (Some (console.File path)) file = Some record { source = printable_text path; text = unwrap_or file [] }
 
--- the expected text, or `None` if there is none or the difference from it is not shown line by line
+-- the expected text if there is one and the difference from it is shown line by line; else `None`
 abbrev pub shown_by_lines : Difference → List ℕ → Option NamedText → Option NamedText
 shown_by_lines difference actual None = None
 shown_by_lines difference actual (Some expected) =
     if is_shown_by_lines difference actual expected.text then Some expected else None
 
--- the expected text of an unmet expectation of a console, or `None` if the difference from it is not shown line by line
+-- the expected text if an unmet expectation is one of the console and the difference is shown line by line; else `None`
 abbrev pub expected_by_lines : ComparisonView → UnmetExpectation → Option NamedText
 expected_by_lines comparison unmet.Exit = None
 expected_by_lines comparison unmet.End = None
@@ -176,6 +179,6 @@ expected_by_lines comparison (unmet.Signature difference) = None
 expected_by_lines comparison (unmet.Same difference) = None
 expected_by_lines comparison unmet.DefaultExit = None
 
--- an `ExpectedText` of the code as contracts see it
+-- an `ExpectedText`, converted from the type of the code to the record that contracts use
 abbrev pub named_text_of : ExpectedText → NamedText
 named_text_of expected = record { source = span_text expected.source; text = expected.text.now }

@@ -13,7 +13,7 @@ last_elements count xs = drop (length xs - count) xs
 abbrev pub is_line_feed : ℕ → Bool
 is_line_feed byte = byte == 10
 
--- the lines of a text without their line feeds; the part after the last line feed is a line unless it is empty
+-- the lines of a text without their line feeds; text after the last line feed is also a line
 unfoldable pub text_lines : List ℕ → List (List ℕ)
 text_lines [] = []
 text_lines (byte ∷ rest) =

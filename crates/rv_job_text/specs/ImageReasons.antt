@@ -1,5 +1,5 @@
--- Why an image was refused, as shown to a person: the addresses that do not fit the map beside its regions, the names of symbols, or a
--- sentence for every other refusal.
+-- The reason why an image was refused, in words: with the addresses of the bytes that do not fit the regions, with the names of symbols, or
+-- as a fixed sentence.
 use Rattle.std.specs.Prelude.{◌+◌, ◌-◌, ◌^◌, ℕ, List, [], ◌∷◌, ◌++◌, codes, Option, Some, None}
 use Rattle.std.specs.Prelude.{option_map, Result, Ok, Err, Bool, true, false, if◌then◌else◌, nat_lt}
 use Rattle.std.specs.List.{find, flat_map}
@@ -21,13 +21,13 @@ use Rattle.rv_text.specs.Numbers.{word_digits}
 
 -- ---- addresses
 
--- the last of `count` addresses that start at `from`, or `past ffffffff` if it does not fit in 32 bits
+-- the last of the `count` addresses from `from` on, or `past ffffffff` if it does not fit in 32 bits
 unfoldable pub last_address_text : ℕ → ℕ → List ℕ
 last_address_text from count =
     if nat_lt (from + (count - 1)) (2 ^ 32) then word_digits (from + (count - 1))
     else codes "past ffffffff"
 
--- the first and the last of `count` addresses that start at `from`, as `FIRST to LAST`
+-- the first and the last of the `count` addresses from `from` on, as `FIRST to LAST`
 abbrev pub address_range_text : ℕ → ℕ → List ℕ
 address_range_text from count = word_digits from ++ codes " to " ++ last_address_text from count
 
@@ -41,15 +41,15 @@ regions_text regions = flat_map region_text regions
 
 -- ---- segments
 
--- the addresses of what does not fit of a segment: its bytes in memory if the Bool says that its file bytes fit, and otherwise its file
--- bytes
+-- the addresses of the bytes of a segment that do not fit: those in memory if the Bool says that those of the file fit, and otherwise those
+-- of the file
 unfoldable pub outside_segment_text : Bool → LoadAt → Segment → List ℕ
 outside_segment_text true at segment =
     codes "a segment's bytes in memory, " ++ address_range_text segment.vaddr segment.memsz
 outside_segment_text false at segment =
     codes "a segment's bytes from the file, " ++ address_range_text (load_address at segment) segment.filesz
 
--- the reason that a segment does not fit in one region, with the regions, if the segment is known
+-- that a segment does not fit in one region, with the regions, if the segment is known
 unfoldable pub unfit_segment_text : Job → Option Segment → List ℕ
 unfit_segment_text job None = codes "a segment does not fit in one region"
 unfit_segment_text job (Some segment) =
@@ -57,7 +57,7 @@ unfit_segment_text job (Some segment) =
     job.load segment
     ++ codes ", do not fit in one region:" ++ regions_text job.regions
 
--- the first segment that overlaps a later one, and the first later one that it overlaps, or `None` if there is no overlap
+-- the first segment that overlaps a later one, with the first of those, or `None` if no two segments overlap
 abbrev pub overlapping_segments : LoadAt → List Segment → Option (Segment × Segment)
 overlapping_segments at [] = None
 overlapping_segments at (segment ∷ rest) =
@@ -70,7 +70,7 @@ segment_pair_text at first second =
     address_range_text (load_address at first) first.filesz ++ codes " and "
     ++ address_range_text (load_address at second) second.filesz
 
--- the reason that the file bytes of two segments overlap, with their addresses, if the segments are known
+-- that the file contents of two segments overlap, with their addresses, if the segments are known
 unfoldable pub segment_overlap_text : LoadAt → Option (Segment × Segment) → List ℕ
 segment_overlap_text at None = codes "the file contents of two segments overlap"
 segment_overlap_text at (Some pair) =
@@ -78,7 +78,7 @@ segment_overlap_text at (Some pair) =
 
 -- ---- symbols
 
--- the reason that a symbol of the signature is not defined, with its name if it is known
+-- that a symbol of the signature is not defined, with its name if it is known
 unfoldable pub missing_symbol_text : Option (List ℕ) → List ℕ
 missing_symbol_text None = codes "a symbol of the signature is undefined"
 missing_symbol_text (Some name) = codes "symbol " ++ printable_text name ++ codes " is not defined"
@@ -97,7 +97,7 @@ unfoldable pub signature_ends_text : List ℕ → Symbols → List ℕ
 signature_ends_text file names =
     named_symbol_text file names.begin ++ codes " to " ++ named_symbol_text file names.end
 
--- the reason that a signature is not a sequence of words in one region, with its symbols and the regions
+-- that a signature is not a sequence of words in one region, with its two symbols and the regions
 unfoldable pub signature_range_text : List Region → List ℕ → Option Symbols → List ℕ
 signature_range_text regions file None = codes "the signature is not a sequence of words in one region"
 signature_range_text regions file (Some names) =
@@ -106,7 +106,7 @@ signature_range_text regions file (Some names) =
 
 -- ---- the reason
 
--- the reason why an image is refused, without details
+-- the reason why an image was refused, without details
 unfoldable pub image_error_sentence : ImageError → List ℕ
 image_error_sentence image_error.ShortHeader = codes "the file is shorter than an ELF header"
 image_error_sentence image_error.BadMagic = codes "not an ELF file"
@@ -133,7 +133,7 @@ image_error_sentence image_error.NoEnd = codes "a symbol of the signature is und
 image_error_sentence image_error.SignatureRange = codes "the signature is not a sequence of words in one region"
 image_error_sentence image_error.OutOfMemory = codes "out of memory"
 
--- the reason why an image that can be parsed is refused, with details about its segments or symbols
+-- the reason why an image that can be parsed was refused, with details of its segments or symbols
 unfoldable pub image_details_text : Job → List ℕ → Image → ImageError → List ℕ
 image_details_text job file image image_error.SegmentMap =
     unfit_segment_text job (unfit_segment job.regions job.load image.segments)
@@ -147,11 +147,11 @@ image_details_text job file image image_error.NoEnd =
     missing_symbol_text (option_map (λ names. names.end) job.signature)
 image_details_text job file image error = image_error_sentence error
 
--- the reason why an image is refused, with details only if it can be parsed
+-- the reason why an image was refused, with details if it can be parsed
 abbrev pub image_reason_text : Job → List ℕ → Result Image ImageError → ImageError → List ℕ
 image_reason_text job file (Ok image) error = image_details_text job file image error
 image_reason_text job file (Err parse_error) error = image_error_sentence error
 
--- the reason why the image of the job, with the contents `file`, is refused
+-- the reason why the image of the job, with the contents `file`, was refused
 unfoldable pub image_reason : Job → List ℕ → ImageError → List ℕ
 image_reason job file error = image_reason_text job file (image_of job.isa file) error

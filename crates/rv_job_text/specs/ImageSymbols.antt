@@ -1,4 +1,4 @@
--- What a job's image contributes to its lines: the symbol of a fault's address, and the address of a signature.
+-- What a job's lines show of its image: the symbol of a fault's pc, and the address of the signature.
 use Rattle.std.specs.Prelude.{ℕ, List, Option, Some, None, Result, Ok, Err}
 use Rattle.rv_rows.specs.declared_elf_error.ImageError.{ImageError}
 use Rattle.rv_rows.specs.declared_image.Image.{Image}
@@ -12,12 +12,12 @@ use Rattle.rv_rows.specs.declared_row.RowEnd.TheVariants as ending
 
 -- ---- the symbol of a fault
 
--- the symbol that an address belongs to, with the offset from it, or `None` if there is none or the file cannot be parsed as an image
+-- the symbol that an address belongs to, with the offset from it, or `None` if there is no such symbol or the file is not a valid image
 abbrev pub symbol_in_image : Result Image ImageError → List ℕ → ℕ → Option (List ℕ × ℕ)
 symbol_in_image (Ok image) file address = symbol_at image file address
 symbol_in_image (Err error) file address = None
 
--- the symbol that an address belongs to, with the offset from it, or `None` if there is none, no file, or the file cannot be parsed as an
+-- the symbol that an address belongs to, with the offset from it, or `None` if there is no such symbol, no file, or the file is not a valid
 -- image
 unfoldable pub symbol_in_file : Isa → Option (List ℕ) → ℕ → Option (List ℕ × ℕ)
 symbol_in_file isa None address = None
@@ -35,12 +35,13 @@ abbrev pub value_if_defined : Result ℕ ImageError → Option ℕ
 value_if_defined (Ok address) = Some address
 value_if_defined (Err error) = None
 
--- the address at which a signature begins, or `None` if the file cannot be parsed as an image or does not define the symbol
+-- the address at which a signature begins, or `None` if the file is not a valid image or does not define the symbol
 abbrev pub signature_begin_in_image : Result Image ImageError → List ℕ → Symbols → Option ℕ
 signature_begin_in_image (Ok image) file names = value_if_defined (symbol_of file names.begin)
 signature_begin_in_image (Err error) file names = None
 
--- the address at which a signature begins, or `None` if the job has no signature or the symbol is not found in the file
+-- the address at which a signature begins, or `None` if the job has no signature, or the file was not read, is not a valid image or does
+-- not define the symbol
 unfoldable pub signature_begin : Isa → Option (List ℕ) → Option Symbols → Option ℕ
 signature_begin isa None names = None
 signature_begin isa (Some file) None = None

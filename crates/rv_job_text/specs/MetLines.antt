@@ -1,4 +1,4 @@
--- The lines about the expectations that a run meets.
+-- The lines of the expectations that a run meets.
 use Rattle.std.specs.Prelude.{ℕ, List, [], ◌++◌, Option, Some, None, codes}
 use Rattle.std.specs.Prelude.{if◌then◌else◌}
 use Rattle.rv_expect.specs.declared.unmet.UnmetExpectation.{UnmetExpectation}
@@ -17,7 +17,7 @@ abbrev pub optional_path_text : Option (List ℕ) → List ℕ
 optional_path_text None = []
 optional_path_text (Some path) = codes " of " ++ printable_text path
 
--- the text of the expectation that a job has the same result as the job of this row
+-- the expectation that a job has the same result as the job of this row
 unfoldable pub same_as_job_text : Option Row → List ℕ
 same_as_job_text None = codes "the same result as another job"
 same_as_job_text (Some other) = codes "the same result as " ++ printable_text other.name
@@ -33,12 +33,12 @@ met_expectation_text comparison expectation.Signature =
 met_expectation_text comparison expectation.Same = same_as_job_text comparison.other
 met_expectation_text comparison expectation.DefaultExit = codes "exit 0, since no expectation is set"
 
--- the line about an expectation; empty if it is not met
+-- the line of an expectation; empty if the job does not have it or it is not met
 unfoldable pub met_line : ComparisonView → List UnmetExpectation → Expectation → List ℕ
 met_line comparison unmet one =
     if is_expectation_met comparison.job unmet one then line (codes "     as expected: " ++ met_expectation_text comparison one) else []
 
--- the lines about all met expectations
+-- the lines of all expectations that are met
 unfoldable pub met_lines : ComparisonView → List UnmetExpectation → List ℕ
 met_lines comparison unmet =
     met_line comparison unmet expectation.Exit ++ met_line comparison unmet expectation.End

@@ -1,4 +1,4 @@
--- The line about a row.
+-- The line of a row.
 use Rattle.std.specs.Prelude.{◌==◌, length, ℕ, List, [], ◌++◌, Option, Some, None, codes, if◌then◌else◌}
 use Rattle.rv_rows.specs.Faults.{fault_name}
 use Rattle.rv_rows.specs.declared_row.Row.{Row}
@@ -15,11 +15,11 @@ abbrev pub optional_reason_text : Option (List ℕ) → List ℕ
 optional_reason_text None = []
 optional_reason_text (Some reason) = codes ": " ++ printable_text reason
 
--- " after " and the number of steps
+-- ` after ` and the number of steps
 abbrev pub after_steps_text : ℕ → List ℕ
 after_steps_text steps = codes " after " ++ count_text steps (codes "step")
 
--- how a run ended, with its steps; for a fault, also the pc, with its symbol `symbol`, and the value; for a refusal, the reason
+-- how a run ended, and after how many steps; a fault has its pc, with `symbol`, and its value; a refusal has its reason
 unfoldable pub result_ending_text : RowEnd → ℕ → Option (List ℕ × ℕ) → Option (List ℕ) → List ℕ
 result_ending_text (ending.Exit code) steps symbol reason =
     codes "exit " ++ exit_code_text code ++ after_steps_text steps
@@ -30,22 +30,22 @@ result_ending_text ending.Budget steps symbol reason = codes "budget used up" ++
 result_ending_text (ending.Refused why) steps symbol reason =
     codes "refused " ++ refusal_name why ++ optional_reason_text reason
 
--- the first word of the line about a row with this judgement: `PASS `, `FAIL ` or `KNOWN `
+-- the first word of the line of a row with this judgement, and a space: `PASS `, `FAIL ` or `KNOWN `
 abbrev pub judgement_word : JudgementView → List ℕ
 judgement_word passed = codes "PASS "
 judgement_word failed = codes "FAIL "
 judgement_word (known reason) = codes "KNOWN "
 judgement_word (now_passes path) = codes "FAIL "
 
--- the reason of a known failure, in brackets, or nothing if there is no reason
+-- the reason of a known failure in brackets; empty if none is given
 abbrev pub known_reason_text : List ℕ → List ℕ
 known_reason_text reason = if length reason == 0 then [] else codes " (" ++ printable_text reason ++ codes ")"
 
--- the message that a job passes although the file at the path lists it as known to fail
+-- the message that a job passes although the file at this path lists it as a known failure
 abbrev pub now_passes_text : List ℕ → List ℕ
 now_passes_text path = codes "passes, but is listed as known to fail: remove it from " ++ printable_text path
 
--- how a run ended, with the reason of a known failure, or, for a job that passes although it is known to fail, that message instead
+-- how a run ended and, for a known failure, its reason; if the job passes although it is listed as a known failure, that message instead
 abbrev pub judged_ending_text : JudgementView → Row → Option (List ℕ × ℕ) → Option (List ℕ) → List ℕ
 judged_ending_text passed row symbol reason = result_ending_text row.ending row.steps symbol reason
 judged_ending_text failed row symbol reason = result_ending_text row.ending row.steps symbol reason
@@ -53,7 +53,7 @@ judged_ending_text (known known_reason) row symbol reason =
     result_ending_text row.ending row.steps symbol reason ++ known_reason_text known_reason
 judged_ending_text (now_passes path) row symbol reason = now_passes_text path
 
--- the line about a row: whether it passed, the job's name, and how the run ended
+-- the line of a row: whether it passed, the job's name, and how the run ended
 unfoldable pub result_line : JudgementView → Row → Option (List ℕ × ℕ) → Option (List ℕ) → List ℕ
 result_line judged row symbol reason =
     line (judgement_word judged ++ row.name ++ codes ": " ++ judged_ending_text judged row symbol reason)

@@ -1,4 +1,4 @@
--- The lines about a job's row.
+-- The lines of a job's row.
 use Rattle.std.specs.Prelude.{ℕ, List, [], ◌++◌, Option, Some, None, Bool, true, false}
 use Rattle.std.specs.Prelude.{if◌then◌else◌, slice_get}
 use Rattle.rv_calls.specs.Calls.{calls_in}
@@ -27,19 +27,19 @@ use Rattle.rv_job_text.specs.TraceOptions.{optional_calls_text, optional_trace_t
 use Rattle.rv_job_text.specs.declared.end_trace.TraceOptions.{TraceOptions}
 use Rattle.rv_calls.specs.Trace.{image_bytes, trace_in}
 
--- a reporter of the rows of a plan: what it knows about the jobs, and which rows it shows in which detail
+-- a reporter of the rows of a plan: what it knows of the jobs, and which rows it shows in how much detail
 pub record RowReporter : Type 0 where
   pub plan : PlanView
-  -- the files that could not be read, with the reasons
+  -- the files that could not be read, with the causes
   pub unread : List UnreadablePath
-  -- which rows are failures
+  -- the rule by which rows are failures
   pub judging : JudgeView
   -- which rows are shown
   pub verbosity : Verbosity
-  -- how many last instructions of a failed job are shown, if any
+  -- how many of the last instructions of a failed job are shown; `None` if its trace is not shown
   pub last : Option ℕ
 
--- a `TextReporter` of the code as contracts see it
+-- a `TextReporter`, converted from the type of the code to the record that contracts use
 abbrev pub reporter_of : TextReporter → RowReporter
 reporter_of reporter = record {
   plan = reporter.plan.now;
@@ -53,41 +53,41 @@ reporter_of reporter = record {
 abbrev pub signature_address : PlanView → Job → Option ℕ
 signature_address plan job = signature_begin job.isa (image_bytes plan.results job) job.signature
 
--- the line about a row, with the symbol at the pc of a fault and with the reason of a refusal
+-- the line of a row, with the symbol of a fault's pc and the reason of a refusal
 unfoldable pub row_line : PlanView → List UnreadablePath → JudgeView → Job → Row → List ℕ
 row_line plan unread judging job row =
     result_line (judgement judging row) row (fault_symbol job.isa (image_bytes plan.results job) row.ending)
     (ending_reason plan.results unread job row.ending)
 
--- the lines about how a run reached its end, with at most `last` of its last instructions
+-- the trace of the run's end, with at most `last` of its last instructions
 unfoldable pub end_trace_lines : PlanView → Job → Row → ℕ → List ℕ
 end_trace_lines plan job row last = optional_trace_text job.isa (image_bytes plan.results job) row.ending
     (trace_in plan job row.steps last)
 
--- the lines about how a run reached its end; empty if the number of last instructions is `None`, which means that they are not requested
+-- the trace of the run's end, with at most the given number of its last instructions; empty if no number is given
 abbrev pub end_trace_if_requested : PlanView → Job → Row → Option ℕ → List ℕ
 end_trace_if_requested plan job row None = []
 end_trace_if_requested plan job row (Some last) = end_trace_lines plan job row last
 
--- the lines about these unmet expectations and, if `Detail` says so, about the met ones
+-- the lines of these unmet expectations and, if the first argument says so, of the met ones
 abbrev pub compared_lines : Detail → Option ℕ → ComparisonView → List UnmetExpectation → List ℕ
 compared_lines detail.UnmetExpectation address comparison unmet = unmet_lines address comparison unmet
 compared_lines detail.All address comparison unmet =
     unmet_lines address comparison unmet ++ met_lines comparison unmet
 
--- the lines about the unmet expectations of a row and, if `Detail` says so, about the met ones
+-- the lines of the unmet expectations of a row and, if `which` says so, of the met ones
 abbrev pub expectation_lines : Detail → PlanView → Job → Row → List ℕ
 expectation_lines which plan job row =
     compared_lines which (signature_address plan job) (comparison_in plan job row)
     (unmet_expectations_in plan job row)
 
--- the lines about a failed run: its unmet expectations, the end of its console and, if requested, how it reached its end
+-- the lines of a failed run after its first: the unmet expectations, the end of the console and, if `last` is given, the trace of its end
 unfoldable pub run_lines : PlanView → Job → Row → Option ℕ → List ℕ
 run_lines plan job row last =
     expectation_lines detail.UnmetExpectation plan job row ++ (console_tail row.console
     ++ end_trace_if_requested plan job row last)
 
--- the lines below the result line of a failed row; empty if the job did not run
+-- the lines of a failed row after its first; empty if the job did not run
 abbrev pub lines_below_failure : PlanView → Job → Row → Option ℕ → List ℕ
 lines_below_failure plan job row last = if did_run row.ending then run_lines plan job row last else []
 
@@ -97,7 +97,7 @@ shows_row Quiet is_failing = false
 shows_row Failures is_failing = is_failing
 shows_row All is_failing = true
 
--- all lines about a row of the job; empty if the row is not shown
+-- all lines of a row of the job; empty if the row is not shown
 unfoldable pub row_lines : RowReporter → Job → Row → List ℕ
 row_lines reporter job row =
     if shows_row reporter.verbosity (fails reporter.judging row)
@@ -106,22 +106,22 @@ row_lines reporter job row =
     then lines_below_failure reporter.plan job row reporter.last else [])
     else []
 
--- the lines about a row of this job; empty if there is no job
+-- all lines of a row of this job; empty if there is no job
 abbrev pub row_lines_of_job : RowReporter → Row → Option Job → List ℕ
 row_lines_of_job reporter row None = []
 row_lines_of_job reporter row (Some job) = row_lines reporter job row
 
--- the lines about a row of the job at index `index`; empty if there is no such job
+-- all lines of a row of the job at an index; empty if there is no such job
 unfoldable pub row_lines_at : RowReporter → ℕ → Row → List ℕ
 row_lines_at reporter index row = row_lines_of_job reporter row (slice_get reporter.plan.jobs index)
 
 -- ---- the outcome of a job
 
--- the lines about the unmet expectations of a row; empty if the job did not run
+-- the lines of the unmet expectations of a row; empty if the job did not run
 abbrev pub unmet_if_run : PlanView → Job → Row → List ℕ
 unmet_if_run plan job row = if did_run row.ending then expectation_lines detail.UnmetExpectation plan job row else []
 
--- the line about a row, followed by its unmet expectations
+-- the line of a row, followed by the lines of its unmet expectations
 unfoldable pub outcome_text : PlanView → List UnreadablePath → JudgeView → Job → Row → List ℕ
 outcome_text plan unread judging job row = row_line plan unread judging job row ++ unmet_if_run plan job row
 
@@ -131,8 +131,8 @@ outcome_text plan unread judging job row = row_line plan unread judging job row 
 unfoldable pub calls_lines : PlanView → Job → List ℕ
 calls_lines plan job = optional_calls_text job.isa (image_bytes plan.results job) (calls_in plan job)
 
--- the lines that explain a run: its expectations, the end of its console, the use of its budget, how it reached its end, and the calls that
--- had not returned
+-- the lines that explain a run: its expectations, the end of its console, how it used up its budget, the trace of its end, and the calls
+-- that had not returned
 unfoldable pub run_explanation : PlanView → Job → Row → TraceOptions → List ℕ
 run_explanation plan job row options =
     expectation_lines detail.All plan job row ++ (console_tail row.console
@@ -144,7 +144,7 @@ abbrev pub explanation_if_run : PlanView → Job → Row → TraceOptions → Li
 explanation_if_run plan job row options =
     if did_run row.ending then run_explanation plan job row options else []
 
--- the line about a row, followed by the lines that explain its run
+-- the line of a row, followed by the lines that explain its run
 unfoldable pub explanation_text : PlanView → List UnreadablePath → JudgeView → Job → Row → TraceOptions → List ℕ
 explanation_text plan unread judging job row options =
     row_line plan unread judging job row ++ explanation_if_run plan job row options

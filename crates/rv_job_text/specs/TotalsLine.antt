@@ -1,4 +1,5 @@
--- The last line: the number of jobs, how many passed, what did not match in the failed ones, and how many failures are known.
+-- The last line: the number of jobs, how many passed and failed, what did not match in the failed ones, the number of known failures, and
+-- the total steps.
 use Rattle.std.specs.Prelude.{◌==◌, ℕ, zero, suc, List, [], ◌∷◌, ◌++◌}
 use Rattle.std.specs.Prelude.{codes, if◌then◌else◌, length, sum_by, count_by}
 use Rattle.std.specs.List.{flat_map}
@@ -31,7 +32,7 @@ failure_kind_name failure.SameAs = codes "same_as"
 abbrev pub passed_count : JudgeView → List Row → ℕ
 passed_count judging rows = count_by (λ row. is_passed (judgement judging row)) rows
 
--- the number of rows that count as failures
+-- the number of rows that are failures; a known failure is not one
 abbrev pub failed_count : JudgeView → List Row → ℕ
 failed_count judging rows = count_by (fails judging) rows
 
@@ -49,12 +50,12 @@ total_steps rows = sum_by (λ row. row.steps) rows
 
 -- ---- the line
 
--- the number of failures of a kind and the name of the kind, as the only element of a list; an empty list if there are none
+-- the number and the name of a kind of failure, as a list of one text; an empty list if there are no failures of this kind
 abbrev pub failure_text : (FailureKind → ℕ) → FailureKind → List (List ℕ)
 failure_text count kind =
     if count kind == 0 then [] else (decimal (count kind) ++ codes " " ++ failure_kind_name kind) ∷ []
 
--- the numbers and names of the kinds of failures whose index is below the given number; kinds without failures are left out
+-- the number and the name of each kind of failure whose index is below the given number, without the kinds that do not occur
 unfoldable pub failure_texts_below : (FailureKind → ℕ) → ℕ → List (List ℕ)
 failure_texts_below count zero = []
 failure_texts_below count (suc index) = failure_texts_below count index ++ failure_text count (failure_kind_at index)
@@ -68,7 +69,7 @@ open_bracket_text (first ∷ more) = codes " (" ++ first ++ flat_map (λ text. c
 abbrev pub bracket_text : List (List ℕ) → List ℕ
 bracket_text texts = if length texts == 0 then [] else open_bracket_text texts ++ codes ")"
 
--- " job" for one job, and " jobs" for any other number
+-- ` job` for one job, and ` jobs` for any other number
 abbrev pub job_word : ℕ → List ℕ
 job_word count = if count == 1 then codes " job" else codes " jobs"
 
@@ -91,11 +92,11 @@ totals_text judging failures rows = passed_counts_text (length rows) (passed_cou
 abbrev pub totals_line : JudgeView → List Row → List ℕ
 totals_line judging rows = line (totals_text judging (failures_by_end judging rows) rows)
 
--- how many jobs have no row since a failure stopped the run; empty if there are none
+-- how many jobs have no row because a failure stopped the run; empty if there are none
 abbrev pub hidden_text : ℕ → List ℕ
 hidden_text count = if count == 0 then [] else codes "; " ++ decimal count ++ job_word count ++ codes " not shown"
 
--- the last line of a run of the jobs at these indices: it has these rows, and `hidden` jobs have none
+-- the last line of a run of the jobs at these indices, with these rows; `hidden` jobs have no row
 abbrev pub run_totals_line : JudgeView → PlanView → List ℕ → List Row → ℕ → List ℕ
 run_totals_line judging plan indices rows hidden =
     line (totals_text judging (failures_in_plan judging plan indices rows) rows ++ hidden_text hidden)

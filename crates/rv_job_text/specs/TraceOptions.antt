@@ -1,4 +1,4 @@
--- How a run reached its end, as shown to a person, with the symbols of the job's image.
+-- How a run reached its end, as text with the symbols of the job's image.
 use Rattle.std.specs.Prelude.{ℕ, List, [], Option, Some, None, Result, Ok, Err}
 use Rattle.rv_rows.specs.declared_elf_error.ImageError.{ImageError}
 use Rattle.rv_rows.specs.declared_image.Image.{Image}
@@ -10,12 +10,12 @@ use Rattle.rv_rows.specs.declared_row.RowEnd.{RowEnd}
 use Rattle.rv_calls.specs.declared_trace.Trace.{Trace}
 use Rattle.rv_calls.specs.Text.{trace_text}
 
--- the result of `text` for the image and the bytes of a file; empty if the file cannot be parsed as an image
+-- the result of `text` for an image and its file; empty if the file is not a valid image
 abbrev pub text_in_image : Result Image ImageError → List ℕ → (Image → List ℕ → List ℕ) → List ℕ
 text_in_image (Ok image) file text = text image file
 text_in_image (Err error) file text = []
 
--- the result of `text` for the image and the bytes of a file; empty if there is no file or it cannot be parsed as an image
+-- the result of `text` for the image in a file; empty if there is no file or it is not a valid image
 unfoldable pub text_in_file : Isa → Option (List ℕ) → (Image → List ℕ → List ℕ) → List ℕ
 text_in_file isa None text = []
 text_in_file isa (Some file) text = text_in_image (image_of isa file) file text

@@ -1,4 +1,4 @@
--- The lines about an unmet expectation: expected, actual, and the first difference. Bytes and words are counted from 0,
+-- The lines of an unmet expectation: what was expected, what was found, and where they first differ. Bytes and words are counted from 0,
 -- lines from 1.
 use Rattle.std.specs.Prelude.{◌+◌, ◌*◌, ◌/◌, ◌%◌, ◌^◌, ℕ, List, [], ◌++◌, length, drop}
 use Rattle.std.specs.Prelude.{slice_index, slice_range, Option, Some, None, unwrap_or}
@@ -47,24 +47,24 @@ expected_end_text (Some (expected.Fault kind)) = codes "fault " ++ fault_name ki
 abbrev pub quoted_value : List ℕ → List ℕ
 quoted_value value = codes "\"" ++ printable_value value ++ codes "\""
 
--- the offset `offset` at which the actual text `actual` first differs from the expected text `expected`, and both texts from there
+-- the offset of the first byte that differs, and both texts from there
 unfoldable pub byte_difference_text : ℕ → List ℕ → List ℕ → List ℕ
 byte_difference_text offset actual expected =
     codes " at byte " ++ decimal offset ++ codes ": expected " ++ quoted_value (drop offset expected)
     ++ codes ", found " ++ quoted_value (drop offset actual)
 
--- the expected number `expected` and the actual number `actual`; `what` is the noun
+-- the expected and the actual number of bytes or words; `what` is the noun
 unfoldable pub count_difference_text : ℕ → List ℕ → ℕ → List ℕ
 count_difference_text actual what expected =
     codes " in length: expected " ++ count_text expected what ++ codes ", found " ++ decimal actual
 
--- where the actual text `actual` first differs from the expected text `expected`, or that one of them is longer
+-- at which byte `actual` first differs from `expected`, or the lengths if one of them is the start of the other
 unfoldable pub bytes_difference_text : Difference → List ℕ → List ℕ → List ℕ
 bytes_difference_text (difference.At offset) actual expected = byte_difference_text offset actual expected
 bytes_difference_text difference.Lengths actual expected = count_difference_text (length actual) (codes "byte") (length expected)
 bytes_difference_text difference.Missing actual expected = codes ", which was not read"
 
--- the message that the console differs from the expected one, which is a text of the list or the contents of a file
+-- the message that the console differs from the expected one, which is a text in the list or the contents of a file
 unfoldable pub expected_console_text :
     ExpectedConsole → Option (List ℕ) → List ℕ → Difference → List ℕ
 expected_console_text (console.Text text) file actual difference =
@@ -81,36 +81,36 @@ console_difference_text (Some expected) file actual difference = expected_consol
 
 -- ---- words
 
--- the digits of the word at index `index` of a signature; empty if there is no such word
+-- the digits of the word at an index of a signature; empty if there is no such word
 unfoldable pub signature_word_digits : List ℕ → ℕ → List ℕ
 signature_word_digits words index =
     if nat_lt index (length words) then word_digits (slice_index words index) else []
 
--- the digits of the word at index `index` of a signature file; empty if there is no such word
+-- the digits of the word at an index of a signature file; empty if there is no such word
 unfoldable pub reference_digits_at : List ℕ → ℕ → List ℕ
 reference_digits_at text index =
     if nat_lt index (length text / 9) then slice_range text (index * 9) (index * 9 + 8) else []
 
--- the address of the word at index `index`, in brackets; empty if the address `first` of the first word is not known
+-- the address of the word at an index, in brackets; empty if `first`, the address of the first word, is not known
 abbrev pub word_address_text : Option ℕ → ℕ → List ℕ
 word_address_text None index = []
 word_address_text (Some first) index =
     codes " (" ++ word_digits ((first + 4 * index) % 2 ^ 32) ++ codes ")"
 
--- the index of a word, and its address if the address of the first word is known
+-- the index of a word, and its address if `first`, the address of the first word, is known
 unfoldable pub word_location_text : Option ℕ → ℕ → List ℕ
 word_location_text first index = codes " at word " ++ decimal index ++ word_address_text first index ++ codes ": expected "
 
--- the expected digits `expected` and the actual digits `actual` of the word at index `index`
+-- the location of a word, and its expected and actual digits
 abbrev pub word_difference_text : Option ℕ → ℕ → List ℕ → List ℕ → List ℕ
 word_difference_text first index actual expected = word_location_text first index ++ expected ++ codes ", found " ++ actual
 
--- the message that the line with this number of a signature file is invalid, and what is expected
+-- the message that a line of a signature file is invalid, and what was expected
 unfoldable pub bad_reference_line_text : ℕ → List ℕ
 bad_reference_line_text number =
     codes ", which is invalid at line " ++ decimal number ++ codes ": expected eight lower-case hexadecimal digits and a newline"
 
--- where the words of a signature first differ from the text of a signature file
+-- where the words of a signature first differ from the text of a signature file; `first` is the address of the first word, if it is known
 unfoldable pub reference_difference_text : Option ℕ → List ℕ → List ℕ → SignatureDifference → List ℕ
 reference_difference_text first words text (signature_difference.Line number) = bad_reference_line_text number
 reference_difference_text first words text (signature_difference.Word index) =
@@ -136,12 +136,12 @@ row_end_text (ending.Fault kind pc value) = codes "ended with fault " ++ fault_n
 row_end_text ending.Budget = codes "used up its budget"
 row_end_text (ending.Refused refusal) = codes "was refused (" ++ refusal_name refusal ++ codes ")"
 
--- that the actual signature is missing if it is `None`, or else that the expected one is
+-- the text that only one of two signatures exists: the expected one if the actual one is `None`, and otherwise the actual one
 abbrev pub missing_signature_text : Option (List ℕ) → List ℕ
 missing_signature_text None = codes ": expected one, found none"
 missing_signature_text (Some words) = codes ": expected none, found one"
 
--- where the actual signature `words` first differs from the expected one `others`; either may be missing
+-- where the signature `words` first differs from the expected signature `others`, or which of them is missing
 unfoldable pub signatures_difference_text : Option ℕ → Option (List ℕ) → Option (List ℕ) → Difference → List ℕ
 signatures_difference_text first words others (difference.At index) =
     word_difference_text first index (signature_word_digits (signature_words_or_empty words) index)
@@ -150,7 +150,7 @@ signatures_difference_text first words others difference.Lengths =
     count_difference_text (length (signature_words_or_empty words)) (codes "word") (length (signature_words_or_empty others))
 signatures_difference_text first words others difference.Missing = missing_signature_text words
 
--- the first difference between the row of a job and the row `other` of the job that its `same_as` names
+-- the first difference between the row of a job and `other`, the row of the job that its `same_as` names
 unfoldable pub rows_difference_text : Option ℕ → Row → Row → SameAsDifference → List ℕ
 rows_difference_text first row other same_as.Ending =
     codes ", which " ++ row_end_text other.ending ++ codes "; this job "
@@ -181,22 +181,22 @@ unmet_expectation_text address comparison (unmet.Same difference) =
     same_difference_text address comparison.row comparison.other difference
 unmet_expectation_text address comparison unmet.DefaultExit = codes "exit 0, since no expectation is set"
 
--- the text before an unmet expectation in its line: five spaces, and `expected: ` unless the text itself says what differs
+-- the start of an unmet expectation's line: five spaces, and then `expected: ` unless the text itself says what differs
 abbrev pub unmet_margin : UnmetExpectation → List ℕ
 unmet_margin (unmet.Console difference) = codes "     "
 unmet_margin (unmet.Signature difference) = codes "     "
 unmet_margin _ = codes "     expected: "
 
--- the lines about an unmet expectation: the differing lines if the expected text is given, and otherwise a single line
+-- the lines of an unmet expectation: the differing lines if the expected text is given, and otherwise a single line
 abbrev pub unmet_line_with : Option ℕ → ComparisonView → UnmetExpectation → Option NamedText → List ℕ
 unmet_line_with address comparison unmet None =
     line (unmet_margin unmet ++ unmet_expectation_text address comparison unmet)
 unmet_line_with address comparison unmet (Some expected) = console_lines expected.source comparison.row.console expected.text
 
--- the lines about an unmet expectation
+-- the lines of an unmet expectation
 unfoldable pub unmet_line : Option ℕ → ComparisonView → UnmetExpectation → List ℕ
 unmet_line address comparison unmet = unmet_line_with address comparison unmet (expected_by_lines comparison unmet)
 
--- the lines about the unmet expectations, in order
+-- the lines of the unmet expectations, in order
 abbrev pub unmet_lines : Option ℕ → ComparisonView → List UnmetExpectation → List ℕ
 unmet_lines address comparison unmet = flat_map (unmet_line address comparison) unmet

@@ -11,7 +11,7 @@ use Rattle.rv_files.specs.Limits.{max_file_size}
 abbrev pub unread_note : List UnreadablePath → List ℕ → Option UnreadablePath
 unread_note unread path = find (λ (one : UnreadablePath). bytes_eq path one.path) unread
 
--- the reason why a file could not be read, or `cannot be read` if there is no entry for it
+-- the cause why a file could not be read, or `cannot be read` if there is no entry for it
 abbrev pub unread_note_text : Option UnreadablePath → List ℕ
 unread_note_text None = codes "cannot be read"
 unread_note_text (Some one) = io_error_text one.reason
@@ -20,7 +20,7 @@ unread_note_text (Some one) = io_error_text one.reason
 unfoldable pub unread_file_text : List UnreadablePath → List ℕ → List ℕ
 unread_file_text unread path = path ++ codes ": " ++ unread_note_text (unread_note unread path)
 
--- the text that the file at this path is too large, with the limit
+-- the text that says that the file at this path is too large, with the limit
 unfoldable pub too_long_file_text : List ℕ → List ℕ
 too_long_file_text path =
     path ++ codes ": the file is larger than " ++ decimal max_file_size ++ codes " bytes"

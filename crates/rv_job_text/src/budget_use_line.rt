@@ -8,7 +8,7 @@ use rv_hang::{BudgetUse, Repetition};
 use rv_text::{Span, push_spans};
 use std::alloc::AllocError;
 
-/// Appends the line about how a run of this many steps used up its budget, or nothing if the run was not analysed.
+/// Appends the line that says how a run of this many steps used up its budget. Appends nothing if there is no analysis.
 pub(crate) fn push_budget_use_line(
     text: &mut Vec<u8>,
     steps: u32,
@@ -23,7 +23,8 @@ pub(crate) fn push_budget_use_line(
     }
 }
 
-// Appends the line about a run that never ends: after how many steps it begins to repeat, and the length of its loop.
+// Appends the line about a run that would never end: after how many steps it begins to repeat, how long the loop is, and whether it waits
+// for input.
 #[tactic(auto, unfolding(crate::specs::BudgetUseLine::repetition_line))]
 fn push_repetition_line(text: &mut Vec<u8>, repetition: Repetition) -> Result<(), AllocError>
     ensures { OnOk result (text.new.items ≡ text.old.items ++ repetition_line repetition) }
@@ -41,7 +42,7 @@ fn push_repetition_line(text: &mut Vec<u8>, repetition: Repetition) -> Result<()
     )
 }
 
-// Returns the length of a loop, as in `step` for 1 and `5 steps` for 5.
+// Returns the length of a loop as it follows `every`: `step` for 1, and `5 steps` for 5.
 fn period_span(period: u32) -> Span<'static>
     ensures { span_text result ≡ period_text period }
 {

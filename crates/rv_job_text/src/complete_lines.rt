@@ -1,4 +1,4 @@
-//! Lines with their line feeds.
+//! The lines of a text, each with its line feed.
 
 ghost use Rattle.std.specs.Prelude.{◌≡◌, ◌≤◌, ◌<◌, [], ◌∷◌, length};
 ghost use Rattle.std.specs.List.{position_or_len};
@@ -35,7 +35,7 @@ pub(crate) fn first_line_feed(text: &[u8]) -> usize
     text.len()
 }
 
-/// Returns the number of lines of a text.
+/// Returns the number of lines of a text. A last line without a line feed counts, too.
 pub(crate) fn whole_line_count(text: &[u8]) -> usize
     ensures { result ≡ length (complete_lines text.now) }
 {

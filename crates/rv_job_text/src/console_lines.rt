@@ -16,7 +16,7 @@ const MAX_EQUAL_LINES: usize = 2;
 /// The maximum number of differing lines that are shown of each text.
 const MAX_DIFFERING_LINES: usize = 3;
 
-// The number of equal leading lines of two texts, and the rest of each text.
+// Where two texts diverge: the number of equal leading lines, and the rest of each text.
 #[derive(Clone, Copy)]
 struct Divergence<'a> {
     equal: usize,
@@ -24,8 +24,8 @@ struct Divergence<'a> {
     expected: &'a [u8],
 }
 
-/// Appends the difference between the console `actual` and the expected text `expected`, line by line: the last equal lines, and the first
-/// differing ones. `source` names the expected text.
+/// Appends the line-by-line difference between the console `actual` and the text `expected`: the last equal lines before the first
+/// difference, and the lines that differ there. `source` is the name of the expected text.
 #[tactic(auto, unfolding(crate::specs::ConsoleLines::console_lines))]
 pub fn push_console_lines(
     bytes: &mut Vec<u8>,
@@ -50,7 +50,7 @@ fn larger(count: usize, other: usize) -> usize
     if count < other { other } else { count }
 }
 
-// Appends the line that says at which line the console differs from the expected text `source`, and how many lines there are.
+// Appends the heading of the difference: `number` is the first line that differs, and `count` the number of lines of the longer text.
 fn push_lines_heading(
     bytes: &mut Vec<u8>,
     source: Span<'_>,
@@ -74,7 +74,7 @@ fn push_lines_heading(
     )
 }
 
-// Appends the last lines of the `equal` leading lines of a text, which are equal in both texts.
+// Appends the last few of the `equal` leading lines of a text, which are equal in both texts.
 fn push_equal_lines(bytes: &mut Vec<u8>, equal: usize, text: &[u8]) -> Result<(), AllocError>
     ensures { OnOk result (bytes.new.items ≡ bytes.old.items ++ equal_lines equal (complete_lines text.now)) }
 {
@@ -83,7 +83,7 @@ fn push_equal_lines(bytes: &mut Vec<u8>, equal: usize, text: &[u8]) -> Result<()
     push_diff_lines(bytes, "       ", equal - earlier, last, &[])
 }
 
-// Appends the lines that differ at the beginning of two texts: first the expected ones, then the actual ones.
+// Appends the lines that differ at the start of two texts: first the expected ones, then the actual ones.
 fn push_differing_lines(
     bytes: &mut Vec<u8>,
     actual: &[u8],
@@ -97,7 +97,8 @@ fn push_differing_lines(
     push_diff_lines(bytes, "     + ", count, actual, expected)
 }
 
-// Appends the first `count` lines of the text `own`, each after a margin and shown around its difference from the line of the text `other`.
+// Appends the first `count` lines of the text `own`, each after a margin. A long line is shown around its first difference from the line
+// with its number in `other`.
 fn push_diff_lines(
     bytes: &mut Vec<u8>,
     margin: &'static str,
@@ -121,7 +122,7 @@ fn push_diff_lines(
     Ok(())
 }
 
-// Returns the text after its first `count` lines, which is empty if there are not more.
+// Returns the text after its first `count` lines, which is empty if it has no more lines.
 fn text_after_lines(text: &[u8], count: usize) -> &[u8]
     ensures { complete_lines result.now ≡ drop count (complete_lines text.now) }
 {
@@ -162,7 +163,8 @@ fn skip_equal_lines<'a>(actual: &'a [u8], expected: &'a [u8]) -> Divergence<'a>
     parting
 }
 
-// Returns how many leading lines of two texts differ, each from the line with its number in the other text; at most `most`.
+// Returns how many leading lines of two texts differ before the first pair of equal ones, where each line is compared with the line of its
+// number in the other text; at most `most`.
 fn differing_line_count(most: usize, actual: &[u8], expected: &[u8]) -> usize
     ensures { result ≡ differing_line_count most (complete_lines actual.now) (complete_lines expected.now) }
 {

@@ -13,8 +13,8 @@ pub const MAX_TAIL_LINES: usize = 10;
 /// The number of bytes at a console's end from which the lines are taken.
 pub const MAX_TAIL_BYTES: usize = 1_024;
 
-/// Appends the last lines of a console, at most [`MAX_TAIL_LINES`] out of its last [`MAX_TAIL_BYTES`] bytes. Each line is written after a
-/// margin, by [`push_printable_text`](rv_text::push_printable_text), and ends with a line feed, even if the console ends without one.
+/// Appends the last lines of a console, at most [`MAX_TAIL_LINES`] of them, taken from its last [`MAX_TAIL_BYTES`] bytes. Each line follows
+/// a margin, is written by [`push_printable_text`](rv_text::push_printable_text), and ends with a line feed, even if the console does not.
 #[tactic(auto, unfolding(crate::specs::ConsoleTail::console_tail))]
 pub fn push_console_tail(bytes: &mut Vec<u8>, console: &[u8]) -> Result<(), AllocError>
     ensures { OnOk result (bytes.new.items ≡ bytes.old.items ++ console_tail console.now) }
@@ -24,7 +24,7 @@ pub fn push_console_tail(bytes: &mut Vec<u8>, console: &[u8]) -> Result<(), Allo
     push_later_lines(bytes, tail, earlier)
 }
 
-// Appends all lines of a text but the first `earlier` ones, each after a margin.
+// Appends all lines of a text except the first `earlier` ones, each after a margin.
 fn push_later_lines(bytes: &mut Vec<u8>, text: &[u8], earlier: usize) -> Result<(), AllocError>
     ensures { OnOk result (bytes.new.items
         ≡ bytes.old.items ++ flat_map console_tail_line (drop earlier (text_lines text.now))) }

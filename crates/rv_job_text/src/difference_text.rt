@@ -1,4 +1,4 @@
-//! Text for the first difference between actual and expected bytes.
+//! The text that says where actual and expected bytes first differ.
 
 ghost use Rattle.std.specs.Prelude.{◌≡◌, ◌++◌, [], OnOk, option_map, unwrap_or};
 ghost use Rattle.rv_text.specs.Printable.{printable_text};
@@ -9,8 +9,8 @@ use rv_rows::ExpectedConsole;
 use rv_text::{Span, actual_and_expected_from, push_spans, push_text};
 use std::alloc::AllocError;
 
-/// Appends the message that the console `actual` differs from the expected one, and where. `file` has the contents of the file with the
-/// expected text, if the list names one.
+/// Appends the message that the console `actual` differs from the expected one, and where. `file` is the contents of the file with the
+/// expected text, if the list names one and it was read.
 #[tactic(auto, unfolding(crate::specs::UnmetLines::console_difference_text, crate::specs::UnmetLines::expected_console_text))]
 pub(crate) fn push_console_difference(
     bytes: &mut Vec<u8>,
@@ -51,7 +51,7 @@ pub(crate) fn push_prefixed_name(
     )
 }
 
-/// Returns the contents of a file, or no bytes if there are none.
+/// Returns the contents of a file, or no bytes if it was not read.
 pub(crate) fn bytes_or_empty(file: Option<&[u8]>) -> &[u8]
     ensures { result.now ≡ unwrap_or (option_map (λ bytes. bytes.now) file.entry) [] }
 {
@@ -61,7 +61,7 @@ pub(crate) fn bytes_or_empty(file: Option<&[u8]>) -> &[u8]
     }
 }
 
-/// Appends where the actual text `actual` first differs from the expected text `expected`, or that one of them is longer.
+/// Appends at which byte `actual` first differs from `expected`, or the lengths if one of them is the start of the other.
 #[tactic(auto, unfolding(crate::specs::UnmetLines::bytes_difference_text))]
 pub(crate) fn push_bytes_difference(
     bytes: &mut Vec<u8>,
@@ -79,7 +79,7 @@ pub(crate) fn push_bytes_difference(
     }
 }
 
-// Appends the offset `offset` at which the actual text `actual` first differs from the expected text `expected`, and both texts from there.
+// Appends the offset of the first byte that differs, and both texts from there.
 #[tactic(auto, unfolding(crate::specs::UnmetLines::byte_difference_text))]
 fn push_byte_difference<'a>(
     bytes: &mut Vec<u8>,
@@ -104,7 +104,7 @@ fn push_byte_difference<'a>(
     )
 }
 
-/// Appends the expected number `expected` and the actual number `actual` of bytes or words. `what` is the noun.
+/// Appends the expected and the actual number of bytes or words. `what` is the noun, `byte` or `word`.
 #[tactic(auto, unfolding(crate::specs::UnmetLines::count_difference_text))]
 pub(crate) fn push_count_difference(
     bytes: &mut Vec<u8>,

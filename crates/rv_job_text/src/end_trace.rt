@@ -1,4 +1,4 @@
-//! How a run reached its end.
+//! How a run reached its end: its last instructions, and how it used up its budget.
 
 ghost use Rattle.std.specs.Prelude.{◌≡◌, ◌<◌, ◌++◌, IfOk, OnOk, length};
 ghost use Rattle.rv_hang.specs.BudgetUse.{IsBudgetUseIn};
@@ -14,17 +14,17 @@ use rv_hang::{BudgetUse, budget_use_of};
 use rv_rows::{Plan, Row, RowEnd};
 use std::alloc::{AllocError, Global};
 
-/// Options for showing how a run reached its end.
+/// Options of the lines that show how a run reached its end.
 #[derive(Clone, Copy)]
 pub struct TraceOptions {
-    /// How many of its last instructions are shown.
+    /// The maximum number of last instructions to show.
     pub last: u32,
-    /// The analysis of a used-up budget.
+    /// How the run used up its budget, if it was analysed.
     pub budget_use: Option<BudgetUse>,
 }
 
-/// Returns an analysis of the run of the job at index `index`, which takes the time of two more runs, or `None` if it did not use up its
-/// budget.
+/// Returns how the run of the job at an index used up its budget, which takes as long as two more runs, or `None` if it ended in another
+/// way.
 pub fn budget_use_at(
     alloc: Global,
     plan: &Plan,
@@ -50,7 +50,8 @@ pub fn budget_use_at(
 }
 
 impl<'a> JobRow<'a> {
-    /// Appends the lines about how the run reached its end, with at most `last` of its last instructions. Runs the job once more.
+    /// Appends the trace of the run's end, with at most `last` of its last instructions. Runs the job once more. Appends nothing if the job
+    /// has no valid image.
     #[tactic(auto, unfolding(crate::specs::RowReporter::end_trace_lines))]
     pub(crate) fn push_end_trace(
         &self,
@@ -97,7 +98,7 @@ impl<'a> JobRow<'a> {
         }
     }
 
-    // Returns an analysis of the run, which used up its budget, or `None` if the job has no valid image.
+    // Returns how the run used up its budget, or `None` if the job has no valid image.
     fn used_budget(&self, alloc: Global) -> Result<Option<BudgetUse>, AllocError>
         ensures { IfOk result (λ found. (d : AJob) → IsBudgetUseIn self.now.plan.now
             (job_at self.now.plan.now self.now.index d) self.now.row.now.steps found) }

@@ -1,4 +1,4 @@
-//! The expected text of a console, if the difference is shown by lines.
+//! The expected text of a console whose difference is shown line by line.
 
 ghost use Rattle.std.specs.Prelude.{◌≡◌, ◌&&◌, option_map};
 ghost use Rattle.rv_expect.specs.Comparisons.{comparison_view};
@@ -9,14 +9,14 @@ use rv_expect::{Comparison, Difference, UnmetExpectation};
 use rv_rows::ExpectedConsole;
 use rv_text::{Span, is_utf8};
 
-/// An expected text and its name.
+/// An expected text, and the name by which it is shown.
 #[derive(Clone, Copy)]
 pub(crate) struct ExpectedText<'a> {
     pub(crate) source: Span<'a>,
     pub(crate) text: &'a [u8],
 }
 
-/// Returns the expected text of an unmet expectation of a console, or `None` if the difference from it is not shown line by line.
+/// Returns the expected text if an unmet expectation is one of the console and the difference is shown line by line; else `None`.
 pub(crate) fn expected_by_lines<'a>(
     comparison: &Comparison<'a, '_>,
     unmet: UnmetExpectation,
@@ -36,8 +36,8 @@ pub(crate) fn expected_by_lines<'a>(
     }
 }
 
-// Returns the expected console text and its name, or `None` if no console is expected. It is from the list, or from a file with the
-// contents `file`.
+// Returns the expected console text and its name, or `None` if no console is expected. The text is in the list, or it is `file`, the
+// contents of the file that the list names.
 fn expected_console<'a>(
     expected: &'a Option<ExpectedConsole>,
     file: Option<&'a [u8]>,
@@ -58,7 +58,7 @@ fn expected_console<'a>(
     }
 }
 
-// Returns the expected text, or `None` if there is none or the difference from it is not shown line by line.
+// Returns the expected text if there is one and the difference from it is shown line by line; else `None`.
 fn shown_by_lines<'a>(
     difference: Difference,
     actual: &[u8],

@@ -1,4 +1,4 @@
-//! The failures by kind, as in the last line.
+//! The number of failures of each kind, for the last line.
 
 ghost use Rattle.std.specs.Prelude.{◌≡◌, ◌++◌, OnOk, codes, if◌then◌else◌};
 ghost use Rattle.std.specs.Fmt.{decimal};
@@ -9,7 +9,7 @@ use rv_expect::FailureKind;
 use rv_text::{Span, push_spans};
 use std::alloc::AllocError;
 
-/// Appends, in brackets, how many failures there are of each kind, or nothing if there are no failures.
+/// Appends, in brackets, the number of failures of each kind that occurs. Appends nothing if there are no failures.
 pub(crate) fn push_failure_counts(
     bytes: &mut Vec<u8>,
     failures: &[FailureKind],

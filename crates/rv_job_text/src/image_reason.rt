@@ -1,4 +1,4 @@
-//! Why an image was refused, as shown to a person.
+//! The reason why an image was refused, in words.
 
 ghost use Rattle.std.specs.Prelude.{◌≡◌, ◌<◌, ◌++◌, IfSome, OnOk, codes, length, option_map};
 ghost use Rattle.rv_rows.specs.Image.{IsImageOf};
@@ -12,8 +12,8 @@ use rv_rows::{Image, ImageError, Job, Region, Symbols, find_symbol, read_image, 
 use rv_text::{Span, push_spans, push_text};
 use std::alloc::{AllocError, Global};
 
-/// Appends the reason why the image of the job is refused. If the image can be parsed, the reason has the addresses of segments and
-/// regions, or the name of a symbol. Allocates the image once more.
+/// Appends the reason why the image of the job was refused. If the file can be parsed, the reason names the segments and regions by their
+/// addresses, or the missing symbol. Allocates memory to parse the file.
 #[tactic(auto, unfolding(crate::specs::ImageReasons::image_reason))]
 pub(crate) fn push_image_reason(
     alloc: Global,
@@ -34,7 +34,7 @@ pub(crate) fn push_image_reason(
     }
 }
 
-// Appends the reason why an image that can be parsed is refused, with details about its segments or symbols.
+// Appends the reason why an image that can be parsed was refused, with details of its segments or symbols.
 #[tactic(auto, unfolding(crate::specs::ImageReasons::image_details_text))]
 fn push_image_details(
     bytes: &mut Vec<u8>,
@@ -118,7 +118,7 @@ fn end_symbol_name(signature: &Option<Symbols>) -> Option<&[u8]>
     }
 }
 
-// Appends the reason that a symbol of the signature is not defined, with its name if it is known.
+// Appends that a symbol of the signature is not defined, with its name if it is known.
 #[tactic(auto, unfolding(crate::specs::ImageReasons::missing_symbol_text))]
 fn push_missing_symbol(bytes: &mut Vec<u8>, name: Option<&[u8]>) -> Result<(), AllocError>
     ensures { OnOk result (bytes.new.items ≡ bytes.old.items
@@ -137,7 +137,7 @@ fn push_missing_symbol(bytes: &mut Vec<u8>, name: Option<&[u8]>) -> Result<(), A
     }
 }
 
-// Appends the reason that a signature is not a sequence of words in one region, with its symbols and the regions.
+// Appends that a signature is not a sequence of words in one region, with its two symbols and the regions.
 #[tactic(auto, unfolding(crate::specs::ImageReasons::signature_range_text))]
 fn push_signature_range(
     bytes: &mut Vec<u8>,
@@ -199,7 +199,7 @@ fn push_signature_ends(
     )
 }
 
-// Returns the address of a symbol in two spans, which are empty if the symbol is not defined.
+// Returns ` at ` and the address of a symbol as two spans, which are empty if the symbol is not defined.
 fn symbol_address_spans(file: &[u8], image: &Image, name: &[u8]) -> (Span<'static>, Span<'static>)
     requires image { IsImageOf file.now image.now }
     requires named { 0 < length name.now }

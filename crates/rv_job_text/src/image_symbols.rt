@@ -1,4 +1,4 @@
-//! What a job's image contributes to its lines: the symbol of a fault's address, and the address of a signature.
+//! What a job's lines show of its image: the symbol of a fault's pc, and the address of the signature.
 
 ghost use Rattle.std.specs.Prelude.{◌≡◌, ◌<◌, IfSome, length, option_map};
 ghost use Rattle.rv_job_text.specs.ImageSymbols.{fault_symbol, signature_begin, symbol_in_file};
@@ -22,7 +22,7 @@ impl<'a> JobFile<'a> {
         }
     }
 
-    // Returns the symbol that a code address belongs to, or `None` if there is none or no valid image.
+    // Returns the symbol that a code address belongs to, or `None` if there is no such symbol or no valid image.
     fn symbol_at(&self, address: u32) -> Option<SymbolAt<'_>>
         ensures { option_map (λ s. (s.name.now, s.offset)) result
             ≡ symbol_in_file self.now.isa (option_map (λ bytes. bytes.now) self.now.bytes) address }
@@ -33,7 +33,8 @@ impl<'a> JobFile<'a> {
         }
     }
 
-    /// Returns the address of the first word of a signature, or `None` if there is no signature or the symbol is not found in the image.
+    /// Returns the address of the first word of the signature that these symbols delimit, or `None` if there is no signature or no valid
+    /// image, or if the symbol is not defined.
     pub(crate) fn signature_begin(&self, names: &Option<Symbols>) -> Option<u32>
         requires { IfSome names.now (λ names. 0 < length names.begin) }
         ensures { result

@@ -1,4 +1,4 @@
-//! The file of a job's image, parsed once for all lines of the job.
+//! The image file of a job, parsed once for all lines of the job.
 
 ghost use Rattle.std.specs.Prelude.{◌≡◌, ◌<◌, IfOk, MatchOption, None, Some, length, option_map};
 ghost use Rattle.rv_rows.specs.declared_job.Job.{Job as AJob};
@@ -13,7 +13,7 @@ use std::alloc::{AllocError, Global};
 /// The bytes of a job's image file, if they were read, and the image, if they are a valid one.
 #[derive(Drop)]
 pub(crate) struct JobFile<'a> {
-    /// The instruction set that the bytes are parsed for.
+    /// The instruction set for which the file is parsed.
     pub(crate) isa: Isa,
     pub(crate) bytes: Option<&'a [u8]>,
     pub(crate) image: Option<Image>,
@@ -38,7 +38,7 @@ impl<'a> JobFile<'a> {
         Ok(JobFile { isa, bytes, image })
     }
 
-    /// Returns the file with its image, or `None` if the file was not read or is not a valid image.
+    /// Returns the file together with its image, or `None` if the file was not read or is not a valid image.
     pub(crate) fn elf_file(&self) -> Option<ElfFile<'_>>
         ensures { MatchOption result
             (image_if_read self.now.isa (option_map (λ bytes. bytes.now) self.now.bytes) ≡ None)

@@ -9,7 +9,7 @@ ghost use Rattle.rv_calls.specs.Trace.{job_at};
 use crate::job_file::JobFile;
 use rv_rows::{Plan, Row};
 
-/// The row of the job at an index of a plan, with the file of the job's image.
+/// The row of a plan's job, with the job's image file.
 #[derive(Clone, Copy)]
 pub(crate) struct JobRow<'a> {
     pub(crate) plan: &'a Plan,

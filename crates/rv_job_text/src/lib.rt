@@ -47,7 +47,7 @@ pub use totals_line::{RunRows, job_word, known_count, push_run_totals_line, push
 pub use unread_files::{too_long_file_text, unread_file_text};
 pub use verbosity::Verbosity;
 
-// From the crates below: what this interface names, and what its callers need with it.
+// Re-exports from lower crates: the types in this interface, and what its callers need with them.
 pub use rv_expect::{Judge, Judgement, is_error, is_failure};
 pub use rv_rows::{RowReporter, did_run};
 pub use rv_text::{Span, XmlContext, push_spans, push_text, push_xml_text, text_of_spans};

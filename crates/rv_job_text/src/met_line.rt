@@ -1,4 +1,4 @@
-//! The line of an expectation that a run meets.
+//! The lines of the expectations that a run meets.
 
 ghost use Rattle.std.specs.Prelude.{◌≡◌, ◌++◌, OnOk, option_map};
 ghost use Rattle.std.specs.List.{flat_map};
@@ -12,7 +12,7 @@ use rv_rows::Row;
 use rv_text::{Span, push_spans, push_text};
 use std::alloc::AllocError;
 
-/// Appends a line for each expectation of a job that its run meets. `unmet` are the unmet expectations.
+/// Appends a line for each expectation of a job that its run meets, given the unmet ones.
 #[tactic(auto, unfolding(crate::specs::MetLines::met_lines))]
 pub(crate) fn push_met_lines(
     bytes: &mut Vec<u8>,
@@ -37,7 +37,7 @@ pub(crate) fn push_met_lines(
     )
 }
 
-// Appends a line for each of these expectations that is met, in order.
+// Appends a line for each of these expectations that the job has and its run meets, in order.
 fn push_each_met_line(
     bytes: &mut Vec<u8>,
     comparison: &Comparison<'_, '_>,
@@ -53,7 +53,7 @@ fn push_each_met_line(
     Ok(())
 }
 
-// Appends the line about an expectation, or nothing if it is not met.
+// Appends the line of an expectation, or nothing if the job does not have it or it is not met.
 #[tactic(auto, unfolding(crate::specs::MetLines::met_line))]
 fn push_met_line(
     bytes: &mut Vec<u8>,
@@ -92,7 +92,7 @@ fn push_met_expectation(
     }
 }
 
-// Appends `what`, which names the expectation that is met, with the path of its file if it has one.
+// Appends the name `what` of a met expectation, with the path of its file if it has one.
 fn push_met_file<'a>(
     bytes: &mut Vec<u8>,
     what: &'a str,
@@ -114,7 +114,7 @@ fn push_met_file<'a>(
     )
 }
 
-// Appends the text of the expectation that a job has the same result as the job of the row `other`.
+// Appends the expectation that a job has the same result as the job of the row `other`.
 #[tactic(auto, unfolding(crate::specs::MetLines::same_as_job_text))]
 fn push_same_as_job(bytes: &mut Vec<u8>, other: Option<&Row>) -> Result<(), AllocError>
     ensures { OnOk result (bytes.new.items ≡ bytes.old.items

@@ -1,4 +1,4 @@
-//! Why a job was refused.
+//! The reason why a job was refused, in words.
 
 ghost use Rattle.std.specs.Prelude.{◌≡◌, ◌<◌, IfOk, length, option_map};
 ghost use Rattle.rv_rows.specs.declared_job.Job.{Job as AJob};
@@ -17,7 +17,7 @@ use rv_rows::{
 };
 use std::alloc::{AllocError, Global};
 
-/// Returns the reason why the job at index `index` is refused, or `None` if it is not refused.
+/// Returns the reason why the job at an index was refused, or `None` if it was not refused or the reason is not known.
 #[tactic(auto, unfolding(crate::specs::RefusalReasons::ending_reason))]
 pub fn ending_reason(
     alloc: Global,
@@ -36,8 +36,8 @@ pub fn ending_reason(
     }
 }
 
-// Returns the reason why a job is refused, or `None` if the file that the refusal concerns is not known. `unread` has the files that could
-// not be read, with the reasons.
+// Returns the reason why a job was refused, or `None` if the file in question is not known. `unread` lists the files that could not be
+// read, with the causes.
 #[tactic(auto, unfolding(crate::specs::RefusalReasons::refusal_reason))]
 fn refusal_reason(
     alloc: Global,
@@ -65,7 +65,7 @@ fn refusal_reason(
     }
 }
 
-// Returns the reason that the file at a path could not be read, or `None` if there is no path.
+// Returns the text about a file that could not be read, or `None` if there is no path.
 fn unread_file_reason(
     alloc: Global,
     unread: &[UnreadablePath],
@@ -80,7 +80,7 @@ fn unread_file_reason(
     }
 }
 
-// Returns the reason that the file at a path is too long, or `None` if there is no path.
+// Returns the text about a file that is too long, or `None` if there is no path.
 fn too_long_file_reason(alloc: Global, path: Option<&str>) -> Result<Option<Vec<u8>>, AllocError>
     ensures { IfOk result (λ reason. option_map (λ text. text.items) reason
         ≡ option_map too_long_file_text (option_map (λ path. path.now) path.entry)) }
@@ -91,7 +91,7 @@ fn too_long_file_reason(alloc: Global, path: Option<&str>) -> Result<Option<Vec<
     }
 }
 
-// Returns the reason why an image that was read is refused, or `None` if it was not read.
+// Returns the reason why an image file that was read was refused, or `None` if it was not read.
 fn image_refusal_text(
     alloc: Global,
     plan: &Plan,
@@ -110,8 +110,8 @@ fn image_refusal_text(
     Ok(Some(text))
 }
 
-// Returns the path of the first of a job's expectation files that was not read: the file of the signature, or else the file of the console.
-// Returns `None` if there is no such file.
+// Returns the path of the expectation file that was not read: the signature file, or else the console file. Returns `None` if neither is
+// missing.
 #[tactic(auto, unfolding(crate::specs::RefusalReasons::unread_reference_path))]
 fn unread_reference_path(plan: &Plan, index: usize) -> Option<&str>
     requires { index < length plan.now.jobs }
@@ -125,7 +125,7 @@ fn unread_reference_path(plan: &Plan, index: usize) -> Option<&str>
     }
 }
 
-// Returns the path of a file, or `None` if its contents were read or there is no path.
+// Returns the path of a file whose contents were not read. Returns `None` if they were read or there is no path.
 fn path_if_unread<'a>(bytes: Option<&[u8]>, path: Option<&'a str>) -> Option<&'a str>
     ensures { option_map (λ path. path.now) result
         ≡ path_if_unread (option_map (λ bytes. bytes.now) bytes.entry)

@@ -15,18 +15,19 @@ use rv_rows::{FaultKind, Refusal, Row, RowEnd, SymbolAt};
 use rv_text::{Span, push_spans, push_symbol_in_brackets, push_text};
 use std::alloc::{AllocError, Global};
 
-/// What is known about a job's end in addition to its row.
+/// What the line of a row shows of a job's end beyond the row.
 #[derive(Clone, Copy)]
 pub struct EndDetail<'a, 'b> {
-    /// The symbol at or before the pc of a fault.
+    /// The symbol that the pc of a fault belongs to.
     pub symbol: Option<SymbolAt<'a>>,
-    /// Why the job is refused.
+    /// Why the job was refused.
     pub reason: Option<&'b [u8]>,
 }
 
-/// Appends the line about a row: `PASS`, `FAIL` or `KNOWN`, the job's name, and how the run ended. A known failure has its reason in
-/// brackets. For a job that passes although it is known to fail, the line names the file that lists it. The pc of a fault has its symbol,
-/// and a refusal its reason, if they are given. Texts from files are written by [`push_printable_text`](rv_text::push_printable_text).
+/// Appends the line of a row: `PASS`, `FAIL` or `KNOWN`, the job's name, and how the run ended, with the symbol of a fault's pc and the
+/// reason of a refusal if they are given. A known failure has its reason in brackets. For a job that passes although it is listed as a
+/// known failure, the line names the file that lists it. Texts from files are written by
+/// [`push_printable_text`](rv_text::push_printable_text).
 #[tactic(auto, unfolding(crate::specs::ResultLine::result_line))]
 pub fn push_result_line(
     alloc: Global,
@@ -52,7 +53,7 @@ pub fn push_result_line(
     push_text(bytes, "\n")
 }
 
-// Returns the first word of the line about a row with this judgement: `PASS `, `FAIL ` or `KNOWN `.
+// Returns the first word of the line of a row with this judgement, and a space: `PASS `, `FAIL ` or `KNOWN `.
 fn judgement_word(judgement: Judgement<'_>) -> &'static str
     ensures { result.now ≡ judgement_word (judgement_view judgement.entry) }
 {
@@ -63,8 +64,8 @@ fn judgement_word(judgement: Judgement<'_>) -> &'static str
     }
 }
 
-// Appends how a run ended, with the reason of a known failure, or, for a job that passes although it is known to fail, that message
-// instead.
+// Appends how a run ended and, for a known failure, its reason. If the job passes although it is listed as a known failure, appends that
+// message instead.
 fn push_judged_ending(
     alloc: Global,
     bytes: &mut Vec<u8>,
@@ -89,7 +90,7 @@ fn push_judged_ending(
     }
 }
 
-// Appends the reason of a known failure, in brackets, or nothing if there is no reason.
+// Appends the reason of a known failure in brackets, or nothing if none is given.
 fn push_known_reason(bytes: &mut Vec<u8>, reason: &[u8]) -> Result<(), AllocError>
     ensures { OnOk result (bytes.new.items ≡ bytes.old.items ++ known_reason_text reason.now) }
 {
@@ -102,7 +103,7 @@ fn push_known_reason(bytes: &mut Vec<u8>, reason: &[u8]) -> Result<(), AllocErro
     )
 }
 
-// Appends the message that a job passes although the file at the path lists it as known to fail.
+// Appends the message that a job passes although the file at `path` lists it as a known failure.
 fn push_now_passes(bytes: &mut Vec<u8>, path: &str) -> Result<(), AllocError>
     ensures { OnOk result (bytes.new.items ≡ bytes.old.items ++ now_passes_text path.now) }
 {
@@ -115,8 +116,7 @@ fn push_now_passes(bytes: &mut Vec<u8>, path: &str) -> Result<(), AllocError>
     )
 }
 
-// Appends how a run ended, with its steps. For a fault, also appends the pc, with its symbol `symbol`, and the value; for a refusal, the
-// reason.
+// Appends how a run ended, and after how many steps. A fault has its pc, with `symbol`, and its value; a refusal has its reason.
 #[tactic(auto, unfolding(crate::specs::ResultLine::result_ending_text))]
 fn push_result_ending(
     alloc: Global,
@@ -143,7 +143,7 @@ fn push_result_ending(
     }
 }
 
-// Appends `exit CODE` and after how many steps.
+// Appends `exit CODE after N steps`.
 fn push_exit_ending(bytes: &mut Vec<u8>, code: u32, steps: u32) -> Result<(), AllocError>
     ensures { OnOk result (bytes.new.items ≡ bytes.old.items
         ++ (codes "exit " ++ exit_code_text code ++ after_steps_text steps)) }
@@ -159,7 +159,7 @@ fn push_exit_ending(bytes: &mut Vec<u8>, code: u32, steps: u32) -> Result<(), Al
     )
 }
 
-// Appends the kind and the pc of a fault.
+// Appends the kind of a fault and its pc.
 fn push_fault_and_address(bytes: &mut Vec<u8>, kind: FaultKind, pc: u32) -> Result<(), AllocError>
     ensures { OnOk result (bytes.new.items ≡ bytes.old.items
         ++ (codes "fault " ++ fault_name kind ++ codes " at " ++ word_digits pc)) }
@@ -175,7 +175,7 @@ fn push_fault_and_address(bytes: &mut Vec<u8>, kind: FaultKind, pc: u32) -> Resu
     )
 }
 
-// Appends the value that a fault reports, and the number of steps.
+// Appends the value of a fault, and the number of steps.
 fn push_fault_value(bytes: &mut Vec<u8>, value: u32, steps: u32) -> Result<(), AllocError>
     ensures { OnOk result (bytes.new.items ≡ bytes.old.items
         ++ (codes ", value " ++ word_digits value ++ codes "," ++ after_steps_text steps)) }
@@ -191,7 +191,7 @@ fn push_fault_value(bytes: &mut Vec<u8>, value: u32, steps: u32) -> Result<(), A
     )
 }
 
-// Appends that the budget was used up and after how many steps.
+// Appends `budget used up after N steps`.
 fn push_budget_ending(bytes: &mut Vec<u8>, steps: u32) -> Result<(), AllocError>
     ensures { OnOk result (bytes.new.items ≡ bytes.old.items
         ++ (codes "budget used up" ++ after_steps_text steps)) }
@@ -205,7 +205,7 @@ fn push_budget_ending(bytes: &mut Vec<u8>, steps: u32) -> Result<(), AllocError>
     )
 }
 
-// Appends `refused REFUSAL`, and the reason if there is one.
+// Appends `refused REFUSAL`, and the reason if it is known.
 fn push_refusal_ending(
     bytes: &mut Vec<u8>,
     why: Refusal,

@@ -1,4 +1,4 @@
-//! The addresses of segments that do not fit a map, as shown to a person.
+//! Why the segments of an image do not fit a job's regions, in words.
 
 ghost use Rattle.std.specs.Prelude.{◌≡◌, ◌+◌, ◌++◌, OnOk, codes, option_map};
 ghost use Rattle.std.specs.List.{find};
@@ -12,7 +12,7 @@ use rv_rows::{Job, LoadAt, Region, Segment, segments_overlap};
 use rv_text::{Span, push_spans, push_text};
 use std::alloc::AllocError;
 
-/// Appends the reason that a segment does not fit in one region, with the regions. `segment` is the segment, if it is known.
+/// Appends that a segment does not fit in one region, with the regions. `segment` is the segment, if it is known.
 #[tactic(auto, unfolding(crate::specs::ImageReasons::unfit_segment_text))]
 pub(crate) fn push_unfit_segment(
     bytes: &mut Vec<u8>,
@@ -31,7 +31,7 @@ pub(crate) fn push_unfit_segment(
     }
 }
 
-// Appends the addresses of what does not fit of a segment: its bytes in memory if its file bytes fit, and otherwise its file bytes.
+// Appends the addresses of the bytes of a segment that do not fit: those of the file, or, if these fit, those in memory.
 #[tactic(auto, unfolding(crate::specs::ImageReasons::outside_segment_text))]
 fn push_outside_segment(bytes: &mut Vec<u8>, job: &Job, segment: &Segment) -> Result<(), AllocError>
     ensures { OnOk result (bytes.new.items ≡ bytes.old.items
@@ -50,7 +50,7 @@ fn push_outside_segment(bytes: &mut Vec<u8>, job: &Job, segment: &Segment) -> Re
     }
 }
 
-/// Appends the addresses of the regions, each in brackets.
+/// Appends the address range of each region, in brackets.
 #[tactic(auto, unfolding(crate::specs::ImageReasons::regions_text))]
 pub(crate) fn push_regions(bytes: &mut Vec<u8>, regions: &[Region]) -> Result<(), AllocError>
     ensures { OnOk result (bytes.new.items ≡ bytes.old.items ++ regions_text regions.now) }
@@ -61,7 +61,7 @@ pub(crate) fn push_regions(bytes: &mut Vec<u8>, regions: &[Region]) -> Result<()
     Ok(())
 }
 
-// Appends the text `before`, the first and the last of `count` addresses that start at `from`, and the text `after`.
+// Appends `before`, the first and the last of the `count` addresses from `from` on, and `after`.
 fn push_address_range(
     bytes: &mut Vec<u8>,
     before: &'static str,
@@ -84,7 +84,7 @@ fn push_address_range(
     )
 }
 
-// Returns the last of `count` addresses that start at `from`, or `past ffffffff` if it does not fit in 32 bits.
+// Returns the last of the `count` addresses from `from` on, or `past ffffffff` if it does not fit in 32 bits.
 #[tactic(auto, unfolding(crate::specs::ImageReasons::last_address_text))]
 fn last_address_span(from: u32, count: u32) -> Span<'static>
     ensures { span_text result ≡ last_address_text from count }
@@ -95,7 +95,7 @@ fn last_address_span(from: u32, count: u32) -> Span<'static>
     }
 }
 
-/// Appends the reason that the file bytes of two segments overlap, with the first two that do.
+/// Appends that the file contents of two segments overlap, with the first two that do.
 #[tactic(auto, unfolding(crate::specs::ImageReasons::segment_overlap_text))]
 pub(crate) fn push_segment_overlap(
     bytes: &mut Vec<u8>,
@@ -111,7 +111,7 @@ pub(crate) fn push_segment_overlap(
     }
 }
 
-// Appends the reason that the file bytes of two segments overlap, with the addresses to which they are loaded.
+// Appends that the file contents of two segments overlap, with the addresses to which they are loaded.
 #[tactic(auto, unfolding(crate::specs::ImageReasons::segment_pair_text))]
 fn push_segment_pair(
     bytes: &mut Vec<u8>,
@@ -140,7 +140,7 @@ fn push_segment_pair(
     )
 }
 
-// Returns the first segment that overlaps a later one, and the first later one that it overlaps, or `None` if there is no overlap.
+// Returns the first segment that overlaps a later one, with the first of those, or `None` if no two segments overlap.
 fn overlapping_segments(at: LoadAt, segments: &[Segment]) -> Option<(Segment, Segment)>
     ensures { result ≡ overlapping_segments at segments.now }
 {

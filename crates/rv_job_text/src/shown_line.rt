@@ -1,4 +1,4 @@
-//! A line of a console, shown relative to the expected one.
+//! A line of a console, shown around its first difference from the expected line.
 
 ghost use Rattle.std.specs.Prelude.{◌≡◌, ◌≤◌, ◌++◌, OnOk, length, nat_eq};
 ghost use Rattle.std.specs.List.{common_prefix_len, position_or_len};
@@ -13,10 +13,11 @@ use std::alloc::AllocError;
 /// The maximum number of characters that are shown of a line.
 const MAX_LINE_CHARACTERS: usize = 160;
 
-/// How many bytes before the first difference a longer line is shown, at most.
+/// The maximum number of bytes of a long line that are shown before its first difference.
 const MAX_BYTES_BEFORE_DIFFERENCE: usize = 32;
 
-/// Appends the line `own` of one text after a margin, shown around its first difference from the line `other` of the other text.
+/// Appends the line `own` of one text after a margin. If it is long, it is shown around its first difference from the line `other` of the
+/// other text.
 #[tactic(auto, unfolding(crate::specs::ConsoleLines::diff_line))]
 pub(crate) fn push_diff_line(
     bytes: &mut Vec<u8>,
@@ -33,7 +34,7 @@ pub(crate) fn push_diff_line(
     push_missing_newline_note(bytes, own, feed)
 }
 
-// Appends a note if a line has no line feed, or else nothing. `feed` is the index of its first line feed, or its length.
+// Appends a note if a line does not end with a line feed. `feed` is the index of its first line feed, or its length if there is none.
 fn push_missing_newline_note(
     bytes: &mut Vec<u8>,
     whole: &[u8],
@@ -49,7 +50,7 @@ fn push_missing_newline_note(
     }
 }
 
-// Appends a line that has a difference at the offset `offset`; if it is long, only the part around the difference.
+// Appends a line that has a difference at `offset`; if it is long, only the part around the difference.
 #[tactic(auto, unfolding(crate::specs::ConsoleLines::shown_line))]
 fn push_shown_line(bytes: &mut Vec<u8>, offset: usize, text: &[u8]) -> Result<(), AllocError>
     ensures { OnOk result (bytes.new.items ≡ bytes.old.items ++ shown_line offset text.now) }
@@ -57,7 +58,7 @@ fn push_shown_line(bytes: &mut Vec<u8>, offset: usize, text: &[u8]) -> Result<()
     push_text_from(bytes, shown_offset(offset, text), text)
 }
 
-// Appends a line without its first `begin` bytes, after two dots unless `begin` is 0, up to the maximum number of characters.
+// Appends a line from the offset `begin` on, up to the maximum number of characters, with two dots before it unless `begin` is 0.
 fn push_text_from(bytes: &mut Vec<u8>, begin: usize, text: &[u8]) -> Result<(), AllocError>
     ensures { OnOk result (bytes.new.items ≡ bytes.old.items ++ text_shown_from begin text.now) }
 {
@@ -68,7 +69,7 @@ fn push_text_from(bytes: &mut Vec<u8>, begin: usize, text: &[u8]) -> Result<(), 
     push_printable_text(bytes, &rest[..characters_len(MAX_LINE_CHARACTERS, rest)])
 }
 
-// Returns the offset from which a line with a difference at the offset `offset` is shown: 0, or, if the line is long, an offset shortly
+// Returns the offset from which a line with a difference at `offset` is shown: 0, or, if the line is long, the start of a character shortly
 // before the difference.
 fn shown_offset(offset: usize, text: &[u8]) -> usize
     ensures { result ≡ shown_offset offset text.now }
@@ -93,7 +94,7 @@ fn first_character_begin(text: &[u8]) -> usize
     text.len()
 }
 
-// Returns the number of bytes in the first `max_count` characters of a text, or its length if it has fewer.
+// Returns the number of bytes in the first `max_count` characters of a text, or the length of the text if it has no more characters.
 fn characters_len(max_count: usize, text: &[u8]) -> usize
     ensures len { result ≡ characters_len max_count text.now }
     ensures within { result ≤ length text.now }

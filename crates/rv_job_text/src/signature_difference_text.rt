@@ -1,4 +1,4 @@
-//! Text for the first difference between actual and expected words of a signature.
+//! The text that says where the actual and expected words of a signature first differ.
 
 ghost use Rattle.std.specs.Prelude.{◌≡◌, ◌++◌, ◌+◌, ◌*◌, ◌%◌, ◌^◌, OnOk, option_map};
 ghost use Rattle.rv_text.specs.Spans.{span_text};
@@ -11,8 +11,8 @@ use rv_rows::{WORD_LINE_LEN, Words};
 use rv_text::{Span, push_spans, push_text};
 use std::alloc::AllocError;
 
-/// Appends the message that a signature differs from the expected one, and where. `address` is the address of its first word, if it is
-/// known.
+/// Appends the message that a signature differs from the expected one, and where. `address` is the address of the signature's first word,
+/// if it is known.
 #[tactic(auto, unfolding(crate::specs::UnmetLines::signature_difference_text))]
 pub(crate) fn push_signature_difference(
     bytes: &mut Vec<u8>,
@@ -35,8 +35,8 @@ pub(crate) fn push_signature_difference(
     push_reference_difference(bytes, address, words, reference, difference)
 }
 
-// Appends where the words of a signature first differ from the text of a signature file. `first` is the address of the first word, if it is
-// known.
+// Appends where the words of a signature first differ from `reference`, the text of a signature file. `first` is the address of the first
+// word, if it is known.
 #[tactic(auto, unfolding(crate::specs::UnmetLines::reference_difference_text))]
 fn push_reference_difference(
     bytes: &mut Vec<u8>,
@@ -70,7 +70,7 @@ fn push_reference_difference(
     }
 }
 
-// Appends the message that the line with this number of a signature file is invalid, and what is expected.
+// Appends the message that a line of a signature file is invalid, and what was expected.
 #[tactic(auto, unfolding(crate::specs::UnmetLines::bad_reference_line_text))]
 fn push_bad_reference_line(bytes: &mut Vec<u8>, number: usize) -> Result<(), AllocError>
     ensures { OnOk result (bytes.new.items ≡ bytes.old.items ++ bad_reference_line_text number) }
@@ -85,7 +85,7 @@ fn push_bad_reference_line(bytes: &mut Vec<u8>, number: usize) -> Result<(), All
     )
 }
 
-/// Appends where the actual signature `words` first differs from the expected one `others`; either may be missing.
+/// Appends where the signature `words` first differs from the expected signature `others`, or which of them is missing.
 #[tactic(auto, unfolding(crate::specs::UnmetLines::signatures_difference_text))]
 pub(crate) fn push_signatures_difference(
     bytes: &mut Vec<u8>,
@@ -115,7 +115,7 @@ pub(crate) fn push_signatures_difference(
     }
 }
 
-// Returns that the actual signature is missing if it is `None`, or else that the expected one is.
+// Returns the text that only one of two signatures exists: the expected one if `words` is `None`, and otherwise the actual one.
 fn missing_signature_text(words: &Option<Words>) -> &'static str
     ensures { result.now ≡ missing_signature_text words.now }
 {
@@ -125,7 +125,7 @@ fn missing_signature_text(words: &Option<Words>) -> &'static str
     }
 }
 
-// Appends the expected digits `expected` and the actual digits `actual` of the word at index `index`.
+// Appends the location of a word, and its expected and actual digits.
 fn push_word_difference<'a>(
     bytes: &mut Vec<u8>,
     first: Option<u32>,
@@ -140,7 +140,7 @@ fn push_word_difference<'a>(
     push_spans(bytes, &[expected, Span::Text(", found "), actual])
 }
 
-// Appends the index of a word, and its address if the address of the first word is known.
+// Appends the index of a word, and its address if `first`, the address of the first word, is known.
 #[tactic(auto, unfolding(crate::specs::UnmetLines::word_location_text))]
 fn push_word_location(
     bytes: &mut Vec<u8>,
@@ -168,14 +168,14 @@ fn push_word_location(
     }
 }
 
-// Returns the address of the word at index `index`, if the first word is at the address `first`.
+// Returns the address of the word at an index, given the address `first` of the first word.
 fn word_address(first: u32, index: usize) -> u32
     ensures { result ≡ (first + 4 * index) % 2 ^ 32 }
 {
     ((first as u128 + 4 * index as u128) % 0x1_0000_0000) as u32
 }
 
-// Returns the digits of the word at index `index` of a signature, or an empty text if there is no such word.
+// Returns the digits of the word at an index of a signature, or an empty text if there is no such word.
 #[tactic(auto, unfolding(crate::specs::UnmetLines::signature_word_digits))]
 fn signature_word_digits(words: &[u32], index: usize) -> Span<'static>
     ensures { span_text result ≡ signature_word_digits words.now index }
@@ -187,7 +187,7 @@ fn signature_word_digits(words: &[u32], index: usize) -> Span<'static>
     }
 }
 
-// Returns the digits of the word at index `index` of a signature file, or an empty text if there is no such word.
+// Returns the digits of the word at an index of a signature file, or an empty text if there is no such word.
 #[tactic(auto, unfolding(crate::specs::UnmetLines::reference_digits_at))]
 fn reference_digits_at(text: &[u8], index: usize) -> &[u8]
     ensures { result.now ≡ reference_digits_at text.now index }

@@ -1,4 +1,4 @@
-//! The text about the rows of a plan, with the reasons why files could not be read.
+//! A reporter of rows that people read.
 
 ghost use Rattle.std.specs.Prelude.{◌≡◌, ◌<◌, ◌++◌, OnOk, length, option_map};
 ghost use Rattle.rv_expect.specs.Comparisons.{comparison_view};
@@ -28,16 +28,16 @@ use rv_rows::{
 };
 use std::alloc::{AllocError, Global};
 
-/// Reports the rows of a plan as text.
+/// Reports the rows of a plan as text for people.
 #[derive(Clone, Copy)]
 pub struct TextReporter<'a> {
     pub plan: &'a Plan,
-    /// The files that could not be read, with the reasons.
+    /// The files that could not be read, with the causes.
     pub unread: &'a [UnreadablePath],
-    /// Which rows are failures.
+    /// Decides which rows are failures.
     pub judge: Judge<'a>,
     pub verbosity: Verbosity,
-    /// How many last instructions of a failed job are shown, if any.
+    /// How many of the last instructions of a failed job are shown; `None` if its trace is not shown.
     pub last: Option<u32>,
 }
 
@@ -46,7 +46,7 @@ impl<'a> RowReporter for TextReporter<'a> {
 
     ghost line = { λ reporter index row. row_lines_at (reporter_of reporter) index row };
 
-    // Appends all lines about a row of the job at index `index`, or nothing if there is no such job or the row is not shown.
+    // Appends all lines of the row of the job at an index, or nothing if there is no such job or the row is not shown.
     #[tactic(auto, unfolding(crate::specs::RowReporter::row_lines_at))]
     fn push_row_text(
         &self,
@@ -63,7 +63,7 @@ impl<'a> RowReporter for TextReporter<'a> {
 }
 
 impl<'a> TextReporter<'a> {
-    // Appends all lines about a row of the job at index `index`, or nothing if the row is not shown.
+    // Appends all lines of the row of the job at an index, or nothing if the row is not shown.
     #[tactic(auto, unfolding(crate::specs::RowReporter::row_lines))]
     fn push_row_lines(
         &self,
@@ -95,9 +95,9 @@ impl<'a> TextReporter<'a> {
         .push_run_lines(alloc, self.last, text)
     }
 
-    /// Appends an explanation of the row of the job at index `index`, whatever the verbosity: the line about it and, if the job ran, its
-    /// expectations with the unmet ones first, the end of its console, the use of its budget, how it reached its end with the registers and
-    /// last instructions, and the calls that had not returned.
+    /// Appends an explanation of the row of the job at an index, whatever the verbosity: the line of the row and, if the job ran, its
+    /// expectations with the unmet ones first, the end of its console, how it used up its budget, the trace of its end, and the calls that
+    /// had not returned.
     #[tactic(auto, unfolding(crate::specs::RowReporter::explanation_text))]
     pub fn push_job_explanation(
         &self,
@@ -127,7 +127,7 @@ impl<'a> TextReporter<'a> {
         .push_run_explanation(alloc, options, text)
     }
 
-    /// Appends the line about the row of the job at index `index`, whatever the verbosity, and the unmet expectations if the job ran.
+    /// Appends the line of the row of the job at an index, whatever the verbosity, and the unmet expectations if the job ran.
     #[tactic(auto, unfolding(crate::specs::RowReporter::outcome_text))]
     pub fn push_outcome(
         &self,
@@ -156,8 +156,8 @@ impl<'a> TextReporter<'a> {
         .push_expectation_lines(alloc, Detail::UnmetExpectation, text)
     }
 
-    /// Appends only the line about the row of the job at index `index`, whatever the verbosity. Parses the image only if the run ended with
-    /// a fault.
+    /// Appends only the line of the row of the job at an index, whatever the verbosity. The image is parsed only if the run ended with a
+    /// fault.
     #[tactic(auto, unfolding(crate::specs::ImageSymbols::fault_symbol))]
     pub fn push_only_row_line(
         &self,
@@ -182,7 +182,7 @@ impl<'a> TextReporter<'a> {
         }
     }
 
-    // Appends the line about the row of the job at index `index`, with the symbol at the pc of a fault.
+    // Appends the line of the row of the job at an index. `symbol` is the symbol of a fault's pc.
     #[tactic(auto, unfolding(crate::specs::RowReporter::row_line))]
     fn push_row_line(
         &self,
@@ -220,7 +220,8 @@ fn reason_bytes(reason: &Option<Vec<u8>>) -> Option<&[u8]>
 }
 
 impl<'a> JobRow<'a> {
-    // Appends the lines about a failed run: its unmet expectations, the end of its console and, if requested, how it reached its end.
+    // Appends the lines of a failed run after its first: the unmet expectations, the end of the console and, if `last` is given, the trace
+    // of its end.
     #[tactic(auto, unfolding(crate::specs::RowReporter::run_lines))]
     fn push_run_lines(
         &self,
@@ -240,7 +241,7 @@ impl<'a> JobRow<'a> {
         }
     }
 
-    // Appends the lines that explain a run: its expectations, the end of its console, the use of its budget, how it reached its end, and
+    // Appends the lines that explain a run: its expectations, the end of its console, how it used up its budget, the trace of its end, and
     // the calls that had not returned.
     #[tactic(auto, unfolding(crate::specs::RowReporter::run_explanation))]
     fn push_run_explanation(
@@ -260,7 +261,7 @@ impl<'a> JobRow<'a> {
         self.push_calls(alloc, text)
     }
 
-    // Appends the lines about the unmet expectations and, if `detail` says so, about the met ones.
+    // Appends the lines of the unmet expectations and, if `detail` says so, of the met ones.
     fn push_expectation_lines(
         &self,
         alloc: Global,
@@ -275,8 +276,8 @@ impl<'a> JobRow<'a> {
         self.push_compared_expectations(alloc, named.as_ref(), detail, text)
     }
 
-    // Appends the lines about the unmet expectations and, if `detail` says so, about the met ones. `other` is the row of the job that
-    // `same_as` names, if there is one.
+    // Appends the lines of the unmet expectations and, if `detail` says so, of the met ones. `other` is the row of the job that `same_as`
+    // names, if there is one.
     fn push_compared_expectations(
         &self,
         alloc: Global,
@@ -305,7 +306,7 @@ impl<'a> JobRow<'a> {
     }
 }
 
-// Appends the lines about these unmet expectations and, if `detail` says so, about the met ones.
+// Appends the lines of these unmet expectations and, if `detail` says so, of the met ones.
 fn push_compared_lines(
     comparison: &Comparison<'_, '_>,
     address: Option<u32>,

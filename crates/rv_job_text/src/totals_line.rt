@@ -1,4 +1,4 @@
-//! The last line, which counts the rows.
+//! The last line, with the totals of the rows.
 
 ghost use Rattle.std.specs.Prelude.{◌≡◌, ◌<◌, ◌≤◌, ◌^◌, ◌++◌, OnOk, codes, length};
 ghost use Rattle.rv_text.specs.Numbers.{count_text};
@@ -11,8 +11,8 @@ use rv_rows::{Plan, Row};
 use rv_text::{Span, push_spans, push_text};
 use std::alloc::AllocError;
 
-/// Appends the last line for the rows of a report: the number of jobs, how many passed and failed, how the failed ones ended, how many are
-/// known failures, and the total steps.
+/// Appends the last line for the rows of a report: the number of jobs, how many passed and failed, the number of failures by how the run
+/// ended, the number of known failures, and the total steps.
 pub fn push_totals_line(
     bytes: &mut Vec<u8>,
     judge: &Judge<'_>,
@@ -26,7 +26,7 @@ pub fn push_totals_line(
     push_text(bytes, "\n")
 }
 
-/// The rows of the first of the jobs at some indices of a plan.
+/// The rows of a run of the jobs at these indices of a plan. If the run was stopped, the last jobs have no rows.
 #[derive(Clone, Copy)]
 pub struct RunRows<'a> {
     pub plan: &'a Plan,
@@ -34,8 +34,8 @@ pub struct RunRows<'a> {
     pub rows: &'a [Row],
 }
 
-/// Appends the last line of a run with these rows, in which `hidden` jobs have no row since a failure stopped it. It is the line of
-/// [`push_totals_line`], but it counts failures by their first unmet expectation, and adds how many jobs have no row.
+/// Appends the last line of a run with these rows. It is like the line of [`push_totals_line`], but counts failures by their first unmet
+/// expectation, and ends with `hidden`, the number of jobs that have no row because a failure stopped the run.
 pub fn push_run_totals_line(
     bytes: &mut Vec<u8>,
     judge: &Judge<'_>,
@@ -127,7 +127,7 @@ fn passed_count(judge: &Judge<'_>, rows: &[Row]) -> usize
         .count()
 }
 
-// Returns the number of rows that count as failures.
+// Returns the number of rows that are failures. A known failure is not one.
 fn failed_count(judge: &Judge<'_>, rows: &[Row]) -> usize
     ensures { result ≡ failed_count (judge_view judge.now) rows.now }
 {
@@ -143,7 +143,7 @@ pub fn known_count(judge: &Judge<'_>, rows: &[Row]) -> usize
         .count()
 }
 
-// Returns the sum of the steps of all rows. A step count has 32 bits, so the sum does not overflow.
+// Returns the sum of the steps of all rows. It cannot overflow, since a row has fewer than 2^32 steps and there are fewer than 2^32 rows.
 fn total_steps(rows: &[Row]) -> u64
     requires { length rows.now < 2 ^ 32 }
     ensures { result ≡ total_steps rows.now }
@@ -151,7 +151,7 @@ fn total_steps(rows: &[Row]) -> u64
     rows.iter().map(|row| u64::from(row.steps)).sum()
 }
 
-// Appends how many jobs have no row, or nothing if there are none.
+// Appends how many jobs have no row, or nothing if each has one.
 fn push_hidden_count(bytes: &mut Vec<u8>, hidden: usize) -> Result<(), AllocError>
     ensures { OnOk result (bytes.new.items ≡ bytes.old.items ++ hidden_text hidden) }
 {

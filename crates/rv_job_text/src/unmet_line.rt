@@ -1,4 +1,4 @@
-//! The line of an unmet expectation.
+//! The lines of an unmet expectation.
 
 ghost use Rattle.std.specs.Prelude.{◌≡◌, ◌++◌, OnOk, None, option_map};
 ghost use Rattle.rv_expect.specs.Comparisons.{comparison_view};
@@ -14,7 +14,7 @@ use rv_rows::{ExpectedEnd, Row, RowEnd};
 use rv_text::{Span, push_spans, push_text};
 use std::alloc::AllocError;
 
-/// Appends the lines about these unmet expectations, in order. `address` is the address of the signature's first word, if it is known.
+/// Appends the lines of these unmet expectations, in order. `address` is the address of the signature's first word, if it is known.
 pub(crate) fn push_unmet_lines(
     bytes: &mut Vec<u8>,
     comparison: &Comparison<'_, '_>,
@@ -30,7 +30,7 @@ pub(crate) fn push_unmet_lines(
     Ok(())
 }
 
-// Appends the lines about an unmet expectation: the differing lines of a console if these can be shown, and otherwise a single line.
+// Appends the lines of an unmet expectation: the differing lines of a console if these can be shown, and otherwise a single line.
 #[tactic(auto, unfolding(crate::specs::UnmetLines::unmet_line))]
 fn push_unmet_line(
     bytes: &mut Vec<u8>,
@@ -49,7 +49,7 @@ fn push_unmet_line(
     }
 }
 
-// Appends the single line about an unmet expectation.
+// Appends the single line of an unmet expectation.
 fn push_expected_line(
     bytes: &mut Vec<u8>,
     comparison: &Comparison<'_, '_>,
@@ -64,7 +64,7 @@ fn push_expected_line(
     push_text(bytes, "\n")
 }
 
-// Returns the text before an unmet expectation in its line: five spaces, and `expected: ` unless the text itself says what differs.
+// Returns the start of an unmet expectation's line: five spaces, and then `expected: ` unless the text itself says what differs.
 fn unmet_margin(unmet: UnmetExpectation) -> &'static str
     ensures { result.now ≡ unmet_margin unmet }
 {
@@ -149,7 +149,7 @@ pub(crate) fn push_expected_end(
 }
 
 // Appends the message that the result of a job differs from the result of the job that its `same_as` names. `other` is the row of that job,
-// if there is one.
+// if it was run.
 #[tactic(auto, unfolding(crate::specs::UnmetLines::same_difference_text))]
 fn push_same_difference(
     bytes: &mut Vec<u8>,
@@ -168,7 +168,7 @@ fn push_same_difference(
     push_rows_difference(bytes, first, row, other, difference)
 }
 
-// Appends the first difference between the row of a job and the row `other` of the job that its `same_as` names.
+// Appends the first difference between the row of a job and `other`, the row of the job that its `same_as` names.
 #[tactic(auto, unfolding(crate::specs::UnmetLines::rows_difference_text))]
 fn push_rows_difference(
     bytes: &mut Vec<u8>,
@@ -202,7 +202,7 @@ fn push_rows_difference(
     }
 }
 
-// Appends the text `before`, and then how a run ended, as in `ended with exit 0`.
+// Appends `before`, and then how a run ended, as in `ended with exit 0`.
 #[tactic(auto, unfolding(crate::specs::UnmetLines::row_end_text))]
 fn push_row_end(bytes: &mut Vec<u8>, before: &'static str, ending: RowEnd) -> Result<(), AllocError>
     ensures { OnOk result (bytes.new.items ≡ bytes.old.items ++ (before.now ++ row_end_text ending)) }

@@ -1,4 +1,4 @@
-//! The text for a file that was not read.
+//! The text about a file that was not read.
 
 ghost use Rattle.std.specs.Prelude.{◌≡◌, IfOk, option_map};
 ghost use Rattle.rv_job_text.specs.UnreadFiles.{too_long_file_text, unread_note, unread_note_text, unread_file_text};
@@ -24,7 +24,7 @@ pub fn unread_file_text(
     )
 }
 
-/// Returns the text that the file at this path is too large, with the limit.
+/// Returns the text that says that the file at this path is too large, with the limit.
 #[tactic(auto, unfolding(crate::specs::UnreadFiles::too_long_file_text))]
 pub fn too_long_file_text(alloc: Global, path: &str) -> Result<Vec<u8>, AllocError>
     ensures { IfOk result (λ text. text.items ≡ too_long_file_text path.now) }
@@ -47,7 +47,7 @@ fn unread_note<'a>(unread: &'a [UnreadablePath], path: &str) -> Option<&'a Unrea
     unread.iter().find(|one| path == one.path.as_str())
 }
 
-// Returns the reason why a file could not be read, or `cannot be read` if there is no entry for it.
+// Returns the cause why a file could not be read, or `cannot be read` if there is no entry for it.
 fn unread_note_text(noted: Option<&UnreadablePath>) -> &'static str
     ensures { result.now ≡ unread_note_text (option_map (λ one. one.now) noted.entry) }
 {

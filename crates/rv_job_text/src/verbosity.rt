@@ -1,4 +1,4 @@
-//! How much is shown of rows.
+//! How much is shown of the rows.
 
 ghost use Rattle.std.specs.Prelude.{◌≡◌};
 ghost use Rattle.rv_expect.specs.Judgement.{is_failing, judgement_view};
@@ -11,9 +11,9 @@ use rv_expect::Judgement;
 pub enum Verbosity {
     /// No rows.
     Quiet,
-    /// Only failures; a known failure is not one.
+    /// Only failures. A known failure is not one.
     Failures,
-    /// All rows; of passed rows and known failures only the first line.
+    /// All rows. Of passed rows and known failures only the first line is shown.
     All,
 }
 
@@ -27,7 +27,7 @@ pub(crate) enum Detail {
 }
 
 impl Verbosity {
-    /// Whether this verbosity shows a row with this judgement: no row, only failures, or every row.
+    /// Whether a row with this judgement is shown.
     pub(crate) fn shows_row(self, judgement: Judgement<'_>) -> bool
         ensures { result ≡ shows_row self (is_failing (judgement_view judgement.entry)) }
     {

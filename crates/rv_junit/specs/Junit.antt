@@ -17,7 +17,7 @@ use Rattle.rv_junit.specs.XmlPieces.{attribute, number_attribute}
 
 -- ---- a case
 
--- the text before this offset, or the whole text if there is no offset
+-- the text up to this offset, or the whole text if no offset is given
 abbrev pub text_up_to : Option ℕ → List ℕ → List ℕ
 text_up_to (Some offset) text = take offset text
 text_up_to None text = text
@@ -30,7 +30,7 @@ first_line text = text_up_to (position is_line_feed text) text
 abbrev pub problem_element_name : Row → List ℕ
 problem_element_name row = if did_run row.ending then codes "failure" else codes "error"
 
--- the XML element for a failed row with these lines, of which the first one is its message
+-- the XML element for a failed row; its text is `lines`, and the first of these is its message
 unfoldable pub problem_text : Row → List ℕ → List ℕ
 problem_text row lines =
     codes "<" ++ problem_element_name row ++ attribute (codes "message") (first_line lines) ++ codes ">"
@@ -44,8 +44,7 @@ reason_attribute reason = if length reason == 0 then [] else attribute (codes "m
 unfoldable pub skipped_text : List ℕ → List ℕ
 skipped_text reason = codes "<skipped" ++ reason_attribute reason ++ codes "/>\n"
 
--- the XML element with the judgement of a row: for a failure, for a job that passes although it is known to fail, or for a known failure;
--- empty if the row passed
+-- the XML element for the judgement of a row: a problem if the row is a failure, `skipped` for a known failure, and empty if the row passed
 abbrev pub judged_text : JudgementView → Row → List ℕ → List ℕ
 judged_text passed row lines = []
 judged_text failed row lines = problem_text row lines
@@ -58,13 +57,13 @@ output_text row =
     codes "<system-out>" ++ count_text row.steps (codes "step") ++ codes "\n" ++ xml_text Element row.console
     ++ codes "</system-out>\n"
 
--- the test case of a row, with its lines; `suite_name` is its class name
+-- the test case of a row; `lines` are the lines that describe the row, and `suite_name` is its class name
 unfoldable pub test_case_text : List ℕ → JudgeView → Row → List ℕ → List ℕ
 test_case_text suite_name judging row lines =
     codes "<testcase" ++ attribute (codes "classname") suite_name ++ attribute (codes "name") row.name
     ++ codes ">\n" ++ judged_text (judgement judging row) row lines ++ output_text row ++ codes "</testcase>\n"
 
--- the test case of the job at this index, with its row and the lines that `line` makes of both
+-- the test case of the row of the job at this index, with the lines that `line` makes for them
 abbrev pub case_text : List ℕ → JudgeView → (ℕ → Row → List ℕ) → ℕ → Row → List ℕ
 case_text suite_name judging line index row = test_case_text suite_name judging row (line index row)
 
@@ -76,7 +75,7 @@ steps_property row =
     codes "<property" ++ attribute (codes "name") (codes "steps." ++ row.name) ++ number_attribute (codes "value") row.steps
     ++ codes "/>\n"
 
--- the XML properties with the steps of all jobs
+-- the XML properties with the steps of all rows
 unfoldable pub steps_properties : List Row → List ℕ
 steps_properties rows = codes "<properties>\n" ++ flat_map steps_property rows ++ codes "</properties>\n"
 
@@ -84,7 +83,7 @@ steps_properties rows = codes "<properties>\n" ++ flat_map steps_property rows +
 abbrev pub skipped_attribute : ℕ → List ℕ
 skipped_attribute count = if count == 0 then [] else number_attribute (codes "skipped") count
 
--- the beginning of a document: the name and the counts of the suite, and the steps of its jobs
+-- the beginning of a document: the suite's name and counts, and the steps of the rows
 unfoldable pub suite_begin_text : List ℕ → JudgeView → List Row → List ℕ
 suite_begin_text suite_name judging rows =
     codes "<?xml version=\"1.0\" encoding=\"UTF-8\"?>\n<testsuites>\n<testsuite"
@@ -93,7 +92,7 @@ suite_begin_text suite_name judging rows =
     ++ number_attribute (codes "errors") (count_by (is_error judging) rows)
     ++ skipped_attribute (known_count judging rows) ++ codes ">\n" ++ steps_properties rows
 
--- the test cases of the rows, each with its lines
+-- the test cases of the rows, each with the lines that describe it
 unfoldable pub test_cases_text : List ℕ → JudgeView → List (List ℕ) → List Row → List ℕ
 test_cases_text suite_name judging [] rows = []
 test_cases_text suite_name judging (lines ∷ texts) [] = []
@@ -104,7 +103,8 @@ test_cases_text suite_name judging (lines ∷ texts) (row ∷ rows) =
 abbrev pub suite_end_text : List ℕ
 suite_end_text = codes "</testsuite>\n</testsuites>\n"
 
--- the JUnit document of these rows, each with its lines; `suite_name` is the name of the suite and the class name of its test cases
+-- the JUnit document of these rows, each with the lines that describe it; `suite_name` is the name of the suite and the class name of its
+-- test cases
 unfoldable pub junit_text : List ℕ → JudgeView → List (List ℕ) → List Row → List ℕ
 junit_text suite_name judging texts rows =
     suite_begin_text suite_name judging rows ++ test_cases_text suite_name judging texts rows ++ suite_end_text

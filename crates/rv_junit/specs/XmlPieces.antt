@@ -7,15 +7,15 @@ use Rattle.rv_job_text.specs.declared_xml.XmlContext.TheVariants.{Attribute, Ele
 use Rattle.rv_job_text.specs.TextWords.{count_text}
 use Rattle.rv_job_text.specs.Xml.{xml_text}
 
--- an XML attribute with a name and a text as its value, which is escaped
+-- an XML attribute with a name and a value, which is escaped
 unfoldable pub attribute : List ℕ → List ℕ → List ℕ
 attribute name value = codes " " ++ name ++ codes "=\"" ++ xml_text Attribute value ++ codes "\""
 
--- an XML attribute with a name and a number as its value
+-- an XML attribute whose value is a number
 unfoldable pub number_attribute : List ℕ → ℕ → List ℕ
 number_attribute name number = codes " " ++ name ++ codes "=\"" ++ decimal number ++ codes "\""
 
--- a piece of a document, as it is written
+-- the text of a piece, as it is written
 abbrev pub piece_text : XmlPiece → List ℕ
 piece_text (piece.Text text) = text.now
 piece_text (piece.Count number noun) = count_text number noun.now

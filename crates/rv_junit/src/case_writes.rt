@@ -1,4 +1,4 @@
-//! The cases of a document, written in few large writes.
+//! The test cases of a document, written in few large writes.
 
 ghost use Rattle.std.specs.Prelude.{◌≡◌, ◌++◌, ◌<◌, ◌≤◌, IfErr, IfSome, OnErr, OnOk, length, slice_index_or};
 ghost use Rattle.rv_job_text.specs.Judgement.{judge_view};
@@ -15,23 +15,22 @@ use rv_job_text::RowReporter;
 use rv_stream::{Row, Sink, WriteError, put_all};
 use std::alloc::{AllocError, Global};
 
-// The size in bytes from which the buffered text is written.
+// The buffered text is written as soon as it has at least this many bytes.
 const FLUSH_SIZE: usize = 32_768;
 
-/// The rows of a document, each with the index of its job, a reporter that makes the lines about a row, and the lines that are already
-/// known.
+/// The rows of a document with the indices of their jobs, a reporter that makes the lines of a row, and the lines that were stored before.
 #[derive(Drop)]
 pub struct Cases<'a, T: RowReporter> {
     pub reporter: &'a T,
     pub indices: &'a [usize],
     pub rows: &'a [Row],
-    /// For each row, the lines about it if they are known, so that the reporter does not make them again. May be shorter than `rows`.
+    /// For each row, its lines if they were stored, so that the reporter need not make them again. May be shorter than `rows`.
     pub texts: &'a [Option<Vec<u8>>],
     pub ghost index_per_row: { length rows.now ≤ length indices.now },
 }
 
 impl<T: RowReporter> Cases<'_, T> {
-    // Returns the lines about the row with this number, counted from 0, or `None` if they are not known.
+    // Returns the stored lines of the row with this number, counted from 0, or `None` if there are none.
     fn known_lines(&self, number: usize) -> Option<&[u8]>
         requires number { number < length self.now.rows.now }
         requires known { AreLinesOf (T.line self.now.reporter.now) self.now.indices.now self.now.rows.now self.now.texts.now }
@@ -76,8 +75,8 @@ impl<T: RowReporter> Cases<'_, T> {
     }
 }
 
-/// Appends the test cases to the buffer `text`, and writes the buffer to the sink whenever it is large; the rest stays in `text`. After an
-/// error, a prefix of the text has been written.
+/// Appends the test cases to the buffer `text`, and writes the buffer to the sink whenever it is large; what was not written stays in
+/// `text`. After an error, a prefix of the text was written.
 pub(crate) fn write_cases<T: RowReporter, W: Sink>(
     alloc: Global,
     text: &mut Vec<u8>,
@@ -106,7 +105,7 @@ pub(crate) fn write_cases<T: RowReporter, W: Sink>(
     Ok(())
 }
 
-// Writes the buffered text if it is long enough for a large write.
+// Writes and empties the buffer if it is large.
 fn write_if_large<W: Sink>(text: &mut Vec<u8>, out: &mut W) -> Result<(), WriteError>
     ensures partly_written { OnOk result (IsPartlyWritten (W.accepted out.old) (W.accepted out.new)
         text.new.items text.old.items) }

@@ -1,4 +1,4 @@
-//! The texts of failed jobs, kept while a run reports them.
+//! The texts of failed rows, stored while a run reports them.
 
 ghost use Rattle.std.specs.Prelude.{◌≡◌, [], IfSome, false, true};
 ghost use Rattle.rv_job_text.specs.Judgement.{judge_view};
@@ -9,19 +9,19 @@ use rv_stream::{Flow, Observer, ReportedRow, StreamSpec};
 use std::alloc::Global;
 use std::marker::PhantomData;
 
-/// The maximum number of bytes that are kept.
+/// The maximum number of bytes that are stored.
 const MAX_KEPT_BYTES: usize = 16_777_216;
 
-/// Keeps the texts of failures, up to 16 MiB, so that a document need not make them again. A text that does not fit, or for which there is
-/// no memory, is not kept.
+/// Stores the texts of failures, up to 16 MiB, so that a document need not make them again. A text that does not fit, or for which there is
+/// not enough memory, is left out.
 #[derive(Drop)]
 pub struct FailureTexts<'k, J: StreamSpec> {
     alloc: Global,
     judge: Judge<'k>,
     texts: Vec<Option<Vec<u8>>>,
-    // How many more bytes can be kept.
+    // How many more bytes can be stored.
     free_bytes: usize,
-    // Whether nothing is kept: texts are not needed, or an allocation failed.
+    // Whether nothing is stored: the texts are not needed, or an allocation failed.
     is_closed: bool,
     of: PhantomData<J>,
     ghost judging: { judge_view judge ≡ J.judge },
@@ -29,7 +29,7 @@ pub struct FailureTexts<'k, J: StreamSpec> {
 }
 
 impl<'k, J: StreamSpec> FailureTexts<'k, J> {
-    /// Returns an observer that has seen no rows. It keeps texts only if `is_needed` is true. Allocates nothing.
+    /// Returns an observer that has seen no rows. It stores texts only if `is_needed` is true. Does not allocate.
     pub fn new(alloc: Global, judge: Judge<'k>, is_needed: bool) -> FailureTexts<'k, J>
         requires judging { judge_view judge ≡ J.judge }
         requires needed { is_needed ≡ J.keeps_failure_texts }
@@ -45,7 +45,7 @@ impl<'k, J: StreamSpec> FailureTexts<'k, J> {
         }
     }
 
-    /// Returns the kept texts, each at the number of its row. There are none unless texts were needed.
+    /// Returns the stored texts, indexed by row. The list is empty if the texts were not needed or an allocation failed.
     pub fn into_texts(self) -> Vec<Option<Vec<u8>>>
         ensures items { result.items ≡ self.entry.texts.items }
         ensures needed { self.entry.is_closed ≡ false → J.keeps_failure_texts ≡ true }
@@ -53,7 +53,8 @@ impl<'k, J: StreamSpec> FailureTexts<'k, J> {
         self.texts
     }
 
-    // Returns a copy of the text of a reported row, or `None` if the row is not a failure, or there is no room or memory for the text.
+    // Returns a copy of the text of a reported row, or `None` if the row is not a failure, or if the text does not fit or there is not
+    // enough memory for it.
     fn text_if_kept(&self, reported: &ReportedRow) -> Option<Vec<u8>>
         ensures { IfSome result (λ text. IsFailureText J.judge reported.now text.items) }
     {
@@ -71,7 +72,7 @@ impl<J: StreamSpec> Observer<ReportedRow> for FailureTexts<'_, J> {
 
     ghost stops = { λ _. ⊥ };
 
-    // Keeps the text of a row that is a failure. If an allocation fails, drops all texts and keeps no more.
+    // Stores the text of a row that is a failure. If the list cannot grow, drops all texts and stores no more.
     fn see(&mut self, output: &ReportedRow) -> Flow {
         if self.is_closed {
             return Flow::Continue;
@@ -87,7 +88,7 @@ impl<J: StreamSpec> Observer<ReportedRow> for FailureTexts<'_, J> {
         Flow::Continue
     }
 
-    // Lets the run continue: keeping texts needs no pause.
+    // Lets the run continue: there is nothing to do in a pause.
     fn pause(&mut self) -> Flow {
         Flow::Continue
     }

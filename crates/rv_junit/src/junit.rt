@@ -61,7 +61,7 @@ fn push_steps_properties(alloc: Global, text: &mut String, rows: &[Row]) -> Resu
     text.push_str("</properties>\n")
 }
 
-// Appends the XML property with the steps of each row, in order.
+// Appends an XML property for each row, in order, with the number of its steps.
 fn push_each_steps_property(
     alloc: Global,
     text: &mut String,
@@ -75,7 +75,7 @@ fn push_each_steps_property(
     Ok(())
 }
 
-// Appends the XML property `steps.NAME` of a job, whose value is the number of its steps.
+// Appends the XML property `steps.NAME`, whose value is the number of the job's steps.
 #[tactic(auto, unfolding(crate::specs::Junit::steps_property))]
 fn push_steps_property(alloc: Global, text: &mut String, row: &Row) -> Result<(), AllocError>
     ensures { OnOk result (string_bytes text.new ≡ string_bytes text.old ++ steps_property row.now) }
@@ -104,21 +104,21 @@ fn steps_name(alloc: Global, row: &Row) -> Result<Vec<u8>, AllocError>
     Ok(name)
 }
 
-// Returns the number of rows that count as failures and whose jobs ran.
+// Returns the number of rows that are failures and whose jobs ran.
 fn failure_count(judge: &Judge<'_>, rows: &[Row]) -> usize
     ensures { result ≡ count_by (is_failure (judge_view judge.now)) rows.now }
 {
     rows.iter().filter(|row| is_failure(judge, row)).count()
 }
 
-// Returns the number of rows that count as failures and whose jobs were refused.
+// Returns the number of rows that are failures because their jobs were refused.
 fn error_count(judge: &Judge<'_>, rows: &[Row]) -> usize
     ensures { result ≡ count_by (is_error (judge_view judge.now)) rows.now }
 {
     rows.iter().filter(|row| is_error(judge, row)).count()
 }
 
-/// Appends the test case of a row, with its lines.
+/// Appends the test case of a row; `lines` are the lines that describe the row.
 pub(crate) fn push_test_case<'a>(
     alloc: Global,
     text: &mut String,
@@ -154,8 +154,8 @@ pub(crate) fn push_test_case<'a>(
     )
 }
 
-// Appends the XML element with the judgement of a row: for a failure, for a job that passes although it is known to fail, or for a known
-// failure. Appends nothing if the row passed.
+// Appends the XML element for the judgement of a row: a problem if the row is a failure, `skipped` for a known failure, and nothing if the
+// row passed. A job that passes although it is listed as a known failure is a failure.
 fn push_judgement(
     alloc: Global,
     text: &mut String,
@@ -193,7 +193,7 @@ fn push_reason_attribute(alloc: Global, text: &mut String, reason: &[u8]) -> Res
     push_attribute(alloc, text, "message", reason)
 }
 
-// Appends the XML element for a failed row with these lines, of which the first one is its message.
+// Appends the XML element for a failed row. Its text is `lines`, and the first of these is its message.
 #[tactic(auto, unfolding(crate::specs::Junit::problem_text))]
 fn push_problem(alloc: Global, text: &mut String, row: &Row, lines: &[u8]) -> Result<(), AllocError>
     ensures { OnOk result (string_bytes text.new

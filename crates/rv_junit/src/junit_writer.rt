@@ -1,4 +1,4 @@
-//! Rows as JUnit XML, written in few large writes.
+//! A JUnit document, written in few large writes.
 
 ghost use Rattle.std.specs.Prelude.{◌≡◌, IfErr, OnErr, OnOk};
 ghost use Rattle.std.specs.Io.KnownBytes.{Appends};
@@ -16,10 +16,11 @@ use rv_job_text::{RowReporter, push_text};
 use rv_stream::{Sink, WriteError, put_all};
 use std::alloc::Global;
 
-/// Writes rows as JUnit XML: one suite, and one test case per row, in order, with its steps and its console. A failed row is a failure, or
-/// an error if the job is refused, with the lines about it. A known failure is skipped, with its reason.
+/// Writes rows as JUnit XML: one suite, with one test case for each row, in order, which has the row's steps and console. The case of a
+/// failed row has a `failure` with the lines that describe the row, or an `error` if the job was refused. The case of a known failure is
+/// `skipped`, with the reason.
 ///
-/// After an error a prefix of the text has been written.
+/// After an error, a prefix of the text was written.
 pub fn write_junit<T: RowReporter, W: Sink>(
     alloc: Global,
     suite: &Suite<'_>,

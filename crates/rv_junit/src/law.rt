@@ -1,4 +1,4 @@
-//! Laws about the JUnit XML; none of them is executed.
+//! Laws of JUnit documents. They are proved and not executed.
 
 ghost use Rattle.std.specs.Prelude.{◌≡◌, ◌+◌, ◌<◌, ◌^◌, ℕ, List, count_by, length};
 ghost use Rattle.std.specs.List.{AllByRecursion};
@@ -10,7 +10,7 @@ ghost use Rattle.rv_job_text.specs.FailureOrError.{is_error, is_failure};
 ghost use Rattle.rv_junit.specs.Junit.{AreReasonsBytes, IsWrittenRow, junit_text};
 ghost use Rattle.rv_job_text.specs.Xml.{IsXmlCharacters};
 
-/// Proves that a document is the UTF-8 encoding of XML 1.0 characters, whatever bytes its names, lines, reasons and consoles have.
+/// Proves that a document consists of XML 1.0 characters in UTF-8, whatever bytes its names, lines, reasons and consoles have.
 pub fn documents_are_xml_characters()
     ensures { (suite_name : List ℕ) (judging : JudgeView) (texts : List (List ℕ)) (rows : List Row)
         → IsBytes suite_name → AreReasonsBytes judging → AllByRecursion IsBytes texts → AllByRecursion IsWrittenRow rows

@@ -1,8 +1,8 @@
 //! Rows as JUnit XML.
 //!
 //! [`write_junit`] writes [`Cases`] as a [`Suite`], with the lines that a caller's [`RowReporter`](rv_job_text::RowReporter) makes for
-//! them. [`FailureTexts`] keeps these lines while a run reports them. The output is exactly the text of its definition in `specs/`, and
-//! consists of XML 1.0 characters ([`documents_are_xml_characters`]).
+//! them. [`FailureTexts`] stores these lines while a run reports them. The output is exactly the text that `specs/` defines, and consists
+//! of XML 1.0 characters ([`documents_are_xml_characters`]).
 #![tactic(auto)]
 
 mod case_writes;

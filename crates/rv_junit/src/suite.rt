@@ -7,6 +7,6 @@ use rv_job_text::Judge;
 pub struct Suite<'a> {
     /// The suite's name, which is also the class name of its test cases.
     pub name: &'a [u8],
-    /// Which rows are failures.
+    /// Decides which rows are failures.
     pub judge: Judge<'a>,
 }

@@ -12,15 +12,15 @@ use std::fmt::Write;
 /// A piece of a document.
 #[derive(Clone, Copy)]
 pub(crate) enum XmlPiece<'a> {
-    /// Text as it is, including markup.
+    /// Text that is written as it is, including markup.
     Text(&'a str),
-    /// A number and a noun, which is given in the singular: `1 step`, but `2 steps`.
+    /// A number and a noun, given in the singular: `1 step`, but `2 steps`.
     Count(u64, &'a str),
-    /// An attribute with a name and a value, escaped for XML.
+    /// An attribute with a name and a value, which is escaped.
     Attribute(&'a str, &'a [u8]),
     /// An attribute with a name and a number as its value.
     NumberAttribute(&'a str, u64),
-    /// The text of an element, escaped for XML.
+    /// The text of an element, which is escaped.
     Element(&'a [u8]),
 }
 
@@ -39,7 +39,7 @@ pub(crate) fn push_xml_pieces(
     Ok(())
 }
 
-// Appends a piece of a document: a text, a count with its noun, an attribute, or an escaped text.
+// Appends a piece of a document.
 fn push_xml_piece(alloc: Global, text: &mut String, piece: XmlPiece<'_>) -> Result<(), AllocError>
     ensures { OnOk result (string_bytes text.new
         ≡ string_bytes text.old ++ piece_text piece.entry) }
@@ -62,7 +62,7 @@ fn push_file_reply_prefix(text: &mut String, number: u64, noun: &str) -> Result<
     text.push_str(if number == 1 { "" } else { "s" })
 }
 
-/// Appends an XML attribute with a name and a text as its value, which is escaped.
+/// Appends an XML attribute with a name and a value, which is escaped.
 #[tactic(auto, unfolding(crate::specs::XmlPieces::attribute))]
 pub(crate) fn push_attribute(
     alloc: Global,
@@ -78,7 +78,7 @@ pub(crate) fn push_attribute(
     text.push_str("\"")
 }
 
-/// Appends an XML attribute with a name and a number as its value.
+/// Appends an XML attribute whose value is a number.
 #[tactic(auto, unfolding(crate::specs::XmlPieces::number_attribute))]
 pub(crate) fn push_number_attribute(
     text: &mut String,

@@ -1,14 +1,14 @@
-//! `rv_machine`: the decode cache, tested with the lines of a table: an image, requests to its machine, and the results.
+//! The decode cache of a machine, tested by the lines of a table: an image, requests to its machine, and the results.
 use rv_machine::{Bus, Isa, Machine, Map, Misaligned, Region};
 use samples::{cell_of, check_equal, check_line_count, hex_of, numbers};
 use std::alloc::{AllocError, Global};
 use std::test::Fail;
 
-// label | entry | parts of the image | dialogue. In the order of the lines: AUIPC, a store over itself, and FENCE.I; C.LI in the first
-// halfword of the address space; an entry in the middle of a word; an instruction whose halves are the last and the first halfword of the
-// address space; steps after the end of a run, which end as well; a run with a budget of 0, which does nothing; and 70,000 rounds of a
-// loop, each of which stores the immediate of the loop's first instruction and executes FENCE.I, after a store over the first instruction
-// of the image.
+// label | entry | parts of the image | dialogue. The lines, in order: AUIPC, a store over itself, and FENCE.I; C.LI in the first halfword
+// of the address space; an entry point in the middle of a word; an instruction of which one half is the last and the other the first
+// halfword of the address space; steps after the end of a run, which also end; a run with a budget of 0, which does nothing; and, after a
+// store over the first instruction of the image, 70,000 rounds of a loop that stores the immediate of the loop's first instruction and
+// executes FENCE.I.
 const DIALOGUES: &str = "\
 fallen asleep | 80000000 | 80000000: 00000297 0052a223 0000100f | kept 80000000 = nothing; step = goes on; kept 80000000 = Auipc 5 0 0 0, 4 bytes; kept 80000001 = nothing; kept 80000002 = nothing; kept 80000004 = nothing; kept 80002000 = nothing; clean 80000004 = yes; step = goes on; kept 80000004 = Sw 0 5 5 4, 4 bytes; clean 80000004 = no; step = goes on; kept 80000000 = Auipc 5 0 0 0, 4 bytes; kept 80000004 = nothing; clean 80000004 = yes
 first halfword | 0 | 0: 4515 9002 | run 10 = 1; kept 0 = Addi 10 0 0 5, 2 bytes
@@ -63,7 +63,7 @@ fn machine_of(alloc: Global, entry: u32, image: &str) -> Result<Machine, Fail> {
     Ok(Machine::new(alloc, bus, entry, Isa::Imc)?)
 }
 
-// Returns as text the instruction in the cache for an address and its length, or `nothing`.
+// Returns as text the cached instruction at an address and its length, or `nothing`.
 fn cached_text(alloc: Global, machine: &Machine, addr: u32) -> Result<String, AllocError> {
     let Some((instr, length)) = machine.kept(addr) else {
         return String::from_str(alloc, "nothing");
@@ -97,8 +97,8 @@ fn run_text(alloc: Global, machine: &mut Machine, budget: u32) -> Result<String,
     format!(in alloc; "{steps}")
 }
 
-// Makes a request of a dialogue and checks its result: `run BUDGET`, `step`, `kept ADDRESS` or `clean ADDRESS`, followed by ` = ` and the
-// result.
+// Makes one request of a dialogue, `run BUDGET`, `step`, `kept ADDRESS` or `clean ADDRESS`, and checks that the result is the one after ` =
+// `.
 fn check_exchange(
     alloc: Global,
     machine: &mut Machine,

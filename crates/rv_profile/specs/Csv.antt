@@ -10,7 +10,7 @@ use Rattle.rv_profile.specs.Profile.{FunctionCounts}
 unfoldable pub csv_header : List ℕ
 csv_header = codes "image,function,address,self,inclusive,calls\n"
 
--- the rest of a CSV row after the function's name: its address and its counts, each after a comma, and a line feed
+-- the rest of a CSV row after the function's name: the address and the counts, each preceded by a comma, and a line feed
 unfoldable pub csv_numbers : FunctionCounts → List ℕ
 csv_numbers counts = codes "," ++ word_digits counts.function ++ codes "," ++ decimal counts.own ++ codes "," ++ decimal counts.inclusive
     ++ codes "," ++ decimal counts.calls ++ codes "\n"

@@ -1,4 +1,4 @@
--- A table's call trees of images, and whether a table has any.
+-- The call trees that a table has of images, and whether it has any.
 use Rattle.std.specs.Prelude.{◌+◌, ◌&&◌, ◌^◌, ℕ, Bool, true, false, nat_lt, not, if◌then◌else◌, List, [], ◌∷◌, Option, Some, None, find, option_map}
 use Rattle.std.specs.List.{list_any}
 use Rattle.std.specs.Option.{option_map_or}
@@ -10,11 +10,11 @@ use Rattle.rv_count_tables.specs.Trees.{all_calls, all_steps}
 use Rattle.rv_count_tables.specs.declared_call_node.CallNode.{CallNode}
 use Rattle.rv_profile.specs.declared.sums.Sums.{Sums}
 
--- the call-tree nodes that the table has for the image with these bytes; empty if the table does not have this image
+-- the nodes of the call tree that the table has for the image with these bytes; empty if the table does not have this image
 abbrev pub nodes_of : CountTable → List ℕ → List CallNode
 nodes_of table bytes = option_map_or (λ entry. entry.nodes) (entry_of_image table bytes) []
 
--- the names of the functions that the table has for the image with these bytes; empty if the table does not have this image
+-- the function names that the table has for the image with these bytes; empty if the table does not have this image
 abbrev pub names_of : CountTable → List ℕ → List FunctionName
 names_of table bytes = option_map_or (λ entry. entry.functions) (entry_of_image table bytes) []
 
@@ -31,26 +31,26 @@ has_stacks table = list_any (λ entry. has_nodes entry.nodes) table.images
 
 -- ---- sums
 
--- the sum of the steps and the sum of the calls of all nodes
+-- the total steps and calls of all nodes
 abbrev pub sums_of : List CallNode → Sums
 sums_of nodes = record { steps = all_steps nodes; calls = all_calls nodes }
 
--- the sums, to which the steps and the calls of one more node are added
+-- the totals with the steps and the calls of one more node added
 abbrev pub with_node : Sums → CallNode → Sums
 with_node sums node = record { steps = sums.steps + node.steps; calls = sums.calls + node.calls }
 
--- whether both sums fit in 64 bits
+-- whether both totals fit in 64 bits
 abbrev pub fit_in_64_bits : Sums → Bool
 fit_in_64_bits sums = nat_lt sums.steps (2 ^ 64) && nat_lt sums.calls (2 ^ 64)
 
--- the sums, or `None` if one of them does not fit in 64 bits
+-- the totals, or `None` if one of them does not fit in 64 bits
 abbrev pub if_fitting : Sums → Option Sums
 if_fitting sums = if fit_in_64_bits sums then Some sums else None
 
--- whether the steps or the calls in the call tree that the table has for the image add up to 2^64 or more
+-- whether the total steps or calls in the call tree that the table has for the image are 2^64 or more
 abbrev pub is_past_64_bits : CountTable → ImageFileView → Bool
 is_past_64_bits table image = not (fit_in_64_bits (sums_of (nodes_of table image.bytes)))
 
--- the path of the first image whose steps or calls in the table add up to 2^64 or more, or `None` if there is none
+-- the path of the first image whose total steps or calls in the table are 2^64 or more, or `None` if there is none
 abbrev pub image_past_64_bits : CountTable → List ImageFileView → Option (List ℕ)
 image_past_64_bits table images = option_map (λ image. image.path) (find (is_past_64_bits table) images)

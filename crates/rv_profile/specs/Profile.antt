@@ -8,8 +8,8 @@ use Rattle.rv_count_tables.specs.Trees.{own_steps_of}
 use Rattle.rv_count_tables.specs.declared_call_node.CallNode.{CallNode}
 use Rattle.rv_profile.specs.declared.function.FunctionProfile.{FunctionProfile}
 
--- the counts of a function: its own steps, which are the steps of the nodes whose path ends with it; its inclusive steps, which are the
--- steps of the nodes whose path contains it, each node counted once; and how often runs entered it
+-- the counts of a function: its own steps, which are the steps of the nodes whose paths end in it; its inclusive steps, which are the steps
+-- of the nodes whose paths contain it, each node counted once; and how often runs entered it
 pub record FunctionCounts : Type 0 where
   pub name : List ℕ
   -- the address of the function
@@ -19,7 +19,7 @@ pub record FunctionCounts : Type 0 where
   -- the number of calls
   pub calls : ℕ
 
--- the counts in a call tree of the function with this name and address
+-- the counts that a call tree has for the function with this name and address
 abbrev pub function_counts : List CallNode → FunctionName → FunctionCounts
 function_counts nodes named = record {
   name = named.name;
@@ -33,7 +33,7 @@ function_counts nodes named = record {
 abbrev pub precedes : FunctionCounts → FunctionCounts → Bool
 precedes a b = nat_lt b.own a.own || ((a.own == b.own) && nat_lt a.function b.function)
 
--- `profile` has the counts of each named function in the call tree, once, in the order that `precedes` defines
+-- `profile` has the counts of each named function in the call tree, each function once, in the order that `precedes` defines
 pub record IsProfileOf (nodes : List CallNode) (names : List FunctionName) (profile : List FunctionCounts) : Type 0 where
   pub each : IsPermutation (map (function_counts nodes) names) profile
   pub order : IsSortedBy precedes profile
@@ -50,9 +50,9 @@ IsWithin steps counts = (counts.own ≤ steps) × (counts.inclusive ≤ steps)
 abbrev pub AreWithin : ℕ → List FunctionCounts → Type 0
 AreWithin steps functions = All (IsWithin steps) functions
 
--- ---- profiles as the code has them
+-- ---- conversion of the code's types
 
--- the counts of a function, converted from the Rust value to the record that contracts use
+-- the counts of a function, converted from the type of the code to the record that contracts use
 abbrev pub function_counts_of : FunctionProfile → FunctionCounts
 function_counts_of function = record {
   name = function.name.now;
@@ -62,6 +62,6 @@ function_counts_of function = record {
   calls = function.steps.calls;
 }
 
--- the counts of functions, converted from the Rust values to the records that contracts use, in order
+-- the counts of functions, converted from the type of the code to the records that contracts use, in order
 abbrev pub profiles_of : List FunctionProfile → List FunctionCounts
 profiles_of functions = map function_counts_of functions

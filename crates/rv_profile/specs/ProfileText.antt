@@ -17,13 +17,13 @@ image_text format path sums functions = if format.csv then csv_rows path (first_
 abbrev pub header_text : ProfileFormat → List ℕ
 header_text format = if format.csv then csv_header else []
 
--- `text` is the profile of the image, computed from its call tree in the table
+-- `text` is the profile of the image, according to its call tree in the table
 pub record IsImageProfileText (format : ProfileFormat) (table : CountTable) (image : ImageFileView) (text : List ℕ) : Type 0 where
   pub functions : List FunctionCounts
   pub profile : IsProfileOf (nodes_of table image.bytes) (names_of table image.bytes) functions
   pub shown : text ≡ image_text format image.path (sums_of (nodes_of table image.bytes)) functions
 
--- `text` is the profiles of these images, one after the other, computed from their call trees in the table
+-- `text` is the profiles of these images, one after another, according to their call trees in the table
 abbrev pub AreImageProfileTexts : ProfileFormat → CountTable → List ImageFileView → List ℕ → Type 0
 AreImageProfileTexts format table [] text = text ≡ []
 AreImageProfileTexts format table (image ∷ images) text = (first : List ℕ) × (IsImageProfileText format table image first

@@ -7,7 +7,7 @@ use crate::sums::Sums;
 use rv_count_tables::push_number;
 use std::alloc::{AllocError, Global};
 
-/// The widths of the columns of an image.
+/// The widths of the columns of an image's profile, in characters.
 #[derive(Clone, Copy)]
 pub(crate) struct Columns {
     pub(crate) own: usize,
@@ -15,7 +15,7 @@ pub(crate) struct Columns {
     pub(crate) calls: usize,
 }
 
-/// Returns the widths of the columns for an image, given the sums of its steps and calls.
+/// Returns the widths of the columns for an image, given the total steps and calls of its call tree.
 pub(crate) fn columns_of(alloc: Global, sums: Sums) -> Result<Columns, AllocError>
     ensures { IfOk result (λ columns. columns ≡ columns_of sums) }
 {
@@ -26,8 +26,7 @@ pub(crate) fn columns_of(alloc: Global, sums: Sums) -> Result<Columns, AllocErro
     })
 }
 
-// Returns the width of a column whose greatest number is `greatest`: `min_width`, or two more than the number of its digits if that is
-// more.
+// Returns the width of a column whose largest number is `greatest`: `min_width`, or the number of its digits plus 2 if that is more.
 fn width(alloc: Global, min_width: usize, greatest: u64) -> Result<usize, AllocError>
     ensures { IfOk result (λ count. count ≡ width min_width greatest) }
 {

@@ -1,4 +1,4 @@
-//! The profiles of images for tools: comma-separated values (RFC 4180), each line ended by a line feed.
+//! Profiles as comma-separated values (RFC 4180), for tools. Each line ends with a line feed.
 
 ghost use Rattle.std.specs.Prelude.{◌≡◌, ◌++◌, OnOk};
 ghost use Rattle.rv_profile.specs.Csv.{csv_header, csv_numbers, csv_row, csv_rows};
@@ -46,7 +46,7 @@ fn push_csv_row(
     push_csv_numbers(bytes, function)
 }
 
-// Appends the rest of a CSV row after the function's name: its address and its counts, each after a comma, and a line feed.
+// Appends the rest of a CSV row after the function's name: the address and the counts, each preceded by a comma, and a line feed.
 #[tactic(auto, unfolding(crate::specs::Csv::csv_numbers))]
 fn push_csv_numbers(bytes: &mut Vec<u8>, function: &FunctionProfile<'_>) -> Result<(), AllocError>
     ensures { OnOk result (bytes.new.items ≡ bytes.old.items ++ csv_numbers (function_counts_of function.now)) }

@@ -14,8 +14,8 @@ pub(crate) struct FunctionProfile<'a> {
     pub(crate) steps: FunctionSteps,
 }
 
-/// Returns the counts in a call tree of the function with this name and address. Takes time linear in the number of nodes that end in the
-/// function.
+/// Returns the counts that a call tree has for the function with this name and address. Takes time linear in the number of nodes whose
+/// paths end in the function.
 pub(crate) fn profile_of_function<'a>(
     index: &CallTreeIndex<'_>,
     named: &'a FunctionName,

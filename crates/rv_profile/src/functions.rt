@@ -10,8 +10,8 @@ use crate::image_stacks::ImageStacks;
 use rv_count_tables::CallTreeIndex;
 use std::alloc::{AllocError, Global};
 
-/// Returns the functions of an image with their counts in its call tree, sorted by own steps in descending order, and then by address.
-/// Takes the time that sorting the nodes and the functions takes.
+/// Returns the functions of an image with their counts in its call tree, sorted by own steps in descending order, and by address where
+/// these are equal. Takes as long as sorting the nodes and the functions.
 pub(crate) fn functions_by_own_steps<'t>(
     alloc: Global,
     stacks: ImageStacks<'t>,

@@ -1,4 +1,4 @@
-//! The lines of an image.
+//! The lines of an image in the profile table.
 
 ghost use Rattle.std.specs.Prelude.{◌≡◌, ◌++◌, OnOk};
 ghost use Rattle.rv_profile.specs.Profile.{AreWithin, profiles_of};
@@ -11,8 +11,8 @@ use crate::text::{push_column_header, push_function_line, push_more_line, push_s
 use crate::top::first_or_all;
 use std::alloc::{AllocError, Global};
 
-/// Appends the lines of the image with this path: its number of steps, and then its functions, only the first `top` of them if a number is
-/// given.
+/// Appends the lines of the image with this path: its number of steps, and then its functions. If `top` is given, only that many functions
+/// are shown.
 pub(crate) fn push_image_lines(
     alloc: Global,
     bytes: &mut Vec<u8>,
@@ -27,8 +27,8 @@ pub(crate) fn push_image_lines(
     push_functions(alloc, bytes, top, profile)
 }
 
-// Appends a header, a line for each function (only the first `top` if a number is given), and how many functions are not shown. Appends
-// nothing if there are no functions.
+// Appends a header, a line for each function, and the number of functions that are not shown. If `top` is given, only that many functions
+// are shown. Appends nothing if there are no functions.
 fn push_functions(
     alloc: Global,
     bytes: &mut Vec<u8>,
@@ -49,7 +49,7 @@ fn push_functions(
     push_more_line(bytes, functions.len() - shown.len())
 }
 
-// Appends the lines of functions, given the total steps of their image.
+// Appends the lines of functions. `steps` is the total of their image.
 fn push_function_lines(
     alloc: Global,
     bytes: &mut Vec<u8>,

@@ -14,14 +14,14 @@ use std::alloc::{AllocError, Global};
 /// The profile of an image.
 #[derive(Drop)]
 pub(crate) struct ImageProfile<'t> {
-    /// The steps and the calls of all nodes together.
+    /// The total steps and calls of all nodes.
     pub(crate) sums: Sums,
     /// The functions, those with the most own steps first.
     pub(crate) functions: Vec<FunctionProfile<'t>>,
     ghost within: { AreWithin sums.steps (profiles_of functions.items) },
 }
 
-/// Returns the profile of an image with this call tree.
+/// Returns the profile of the image with this call tree.
 pub(crate) fn profile_of_image<'t>(
     alloc: Global,
     stacks: ImageStacks<'t>,

@@ -1,4 +1,4 @@
-//! A table's call trees of images.
+//! The call trees that a table has of images.
 
 ghost use Rattle.std.specs.Prelude.{◌≡◌, [], find, option_map, true};
 ghost use Rattle.std.specs.List.{list_any};
@@ -11,7 +11,7 @@ use crate::sums::sums_of;
 use rv_count_tables::{CallNode, CountTable, FunctionName, ImageCounts};
 use rv_cover_view::{ImageFile, entry_of_image};
 
-/// The call tree of an image.
+/// The call tree of an image, with the names of its functions.
 #[derive(Clone, Copy)]
 pub(crate) struct ImageStacks<'t> {
     pub(crate) nodes: &'t [CallNode],
@@ -73,7 +73,7 @@ fn has_nodes(entry: &ImageCounts) -> bool
     !entry.nodes.as_slice().is_empty()
 }
 
-/// Returns the path of the first image whose steps or calls in a table add up to 2^64 or more, or `None` if there is none.
+/// Returns the path of the first of these images whose total steps or calls in a table are 2^64 or more, or `None` if there is none.
 pub fn image_past_64_bits<'a>(table: &CountTable, images: &[ImageFile<'a>]) -> Option<&'a str>
     ensures { option_map (λ path. path.now) result ≡ image_past_64_bits table.now (images_of_files images.now) }
 {
@@ -83,7 +83,7 @@ pub fn image_past_64_bits<'a>(table: &CountTable, images: &[ImageFile<'a>]) -> O
     }
 }
 
-// Returns the first image whose steps or calls in a table add up to 2^64 or more, or `None` if there is none.
+// Returns the first image whose total steps or calls in a table are 2^64 or more, or `None` if there is none.
 fn first_past_64_bits<'i, 'a>(
     table: &CountTable,
     images: &'i [ImageFile<'a>],
@@ -94,7 +94,7 @@ fn first_past_64_bits<'i, 'a>(
     images.iter().find(|image| is_past_64_bits(table, image))
 }
 
-// Whether the steps or calls of the image in a table add up to 2^64 or more.
+// Whether the total steps or calls of the image in a table are 2^64 or more.
 fn is_past_64_bits(table: &CountTable, image: &ImageFile<'_>) -> bool
     ensures { result ≡ is_past_64_bits table.now (image_of_file image.now) }
 {

@@ -1,4 +1,4 @@
-//! The profile report of images, from a table's call trees.
+//! The profile report of images.
 
 ghost use Rattle.std.specs.Prelude.{◌≡◌, ◌++◌, IfOk, List, None, OnOk, false, ℕ};
 ghost use Rattle.rv_count_tables.specs.Table.{IsValidTable};
@@ -17,8 +17,8 @@ use rv_count_tables::CountTable;
 use rv_cover_view::ImageFile;
 use std::alloc::{AllocError, Global};
 
-/// Returns the profile report of these images, computed from their call trees in the table: CSV rows after a header for tools, or lines for
-/// people.
+/// Returns the profile report of these images, according to their call trees in the table: a CSV header and rows for tools, or lines for
+/// people, as the format says.
 pub fn profile_text(
     alloc: Global,
     format: ProfileFormat,
@@ -48,7 +48,7 @@ fn push_header(text: &mut Vec<u8>, format: ProfileFormat) -> Result<(), AllocErr
     }
 }
 
-// Appends the profile of an image, computed from its call tree in the table.
+// Appends the profile of an image, according to its call tree in the table.
 fn push_image(
     alloc: Global,
     text: &mut Vec<u8>,

@@ -1,4 +1,4 @@
-//! A law on profiles, with no code to run.
+//! A law of profiles. It is proved, and its code only uses another law.
 
 ghost use Rattle.std.specs.Prelude.{◌≡◌, ℕ, List};
 ghost use Rattle.rv_count_tables.specs.Table.{IsValidTable};
@@ -9,7 +9,7 @@ ghost use Rattle.rv_count_tables.specs.Trees.{all_steps};
 
 use rv_count_tables::own_steps_sum_to_all;
 
-/// Proves that the own steps of all functions of an image add up to the steps of its call tree.
+/// Proves that the own steps of all functions of an image add up to the total steps of its call tree.
 pub fn own_steps_sum_to_all_steps()
     ensures { (table : ATable) (bytes : List ℕ) (found : List FunctionCounts) → IsValidTable table
         → IsProfileOf (nodes_of table bytes) (names_of table bytes) found

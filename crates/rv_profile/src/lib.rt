@@ -1,9 +1,10 @@
 //! Profiles of images by function: the steps in each function itself, the steps including the functions that it called, and how often runs
 //! entered it.
 //!
-//! A table of counts with call trees holds all of this, so no image is read. [`image_past_64_bits`] returns the path of an image whose
-//! steps do not fit in 64 bits, and [`has_stacks`] whether a table has call trees at all. [`profile_text`] formats the functions of images,
-//! those with the most own steps first. The own steps of all functions of an image add up to its steps ([`own_steps_sum_to_all_steps`]).
+//! A table of counts with call trees holds all of this, so no image file is read. [`image_past_64_bits`] returns the path of an image whose
+//! total steps or calls do not fit in 64 bits, and [`has_stacks`] returns whether a table has call trees at all. [`profile_text`] formats
+//! the functions of images, those with the most own steps first. The own steps of all functions of an image add up to its steps
+//! ([`own_steps_sum_to_all_steps`]).
 #![tactic(auto)]
 
 mod columns;
@@ -27,5 +28,5 @@ pub use image_stacks::{has_stacks, image_past_64_bits};
 pub use images_text::profile_text;
 pub use law::own_steps_sum_to_all_steps;
 
-// From the crates below: what this interface names, and what its callers need with it.
+// Re-exports from lower crates: the types in this interface, and what its callers need with them.
 pub use rv_cover_view::{ImageFile, cover_text, images_of_jobs, other_image};

@@ -1,11 +1,11 @@
-//! Sums over the nodes of a call tree.
+//! The totals of a call tree.
 
 ghost use Rattle.std.specs.Prelude.{◌≡◌};
 ghost use Rattle.rv_profile.specs.ImageStacks.{if_fitting, sums_of, with_node};
 
 use rv_count_tables::CallNode;
 
-/// How many instructions were executed in all nodes, and how often runs entered them.
+/// The number of instructions executed in all nodes, and how often runs entered them.
 #[derive(Clone, Copy)]
 pub(crate) struct Sums {
     pub(crate) steps: u64,
@@ -13,7 +13,7 @@ pub(crate) struct Sums {
 }
 
 impl Sums {
-    // Returns the sums, to which the counts of one more node are added, or `None` if one of them does not fit in 64 bits.
+    // Returns the totals with the counts of one more node added, or `None` if one of them would not fit in 64 bits.
     fn with_node(self, node: CallNode) -> Option<Sums>
         ensures { result ≡ if_fitting (with_node self node) }
     {
@@ -24,7 +24,7 @@ impl Sums {
     }
 }
 
-/// Returns the sums over all nodes, or `None` if one of them does not fit in 64 bits.
+/// Returns the totals of all nodes, or `None` if one of them does not fit in 64 bits.
 pub(crate) fn sums_of(nodes: &[CallNode]) -> Option<Sums>
     ensures { result ≡ if_fitting (sums_of nodes.now) }
 {

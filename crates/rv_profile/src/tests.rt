@@ -1,4 +1,4 @@
-//! Tests with profiles that another tool made of the same call trees, and some that were counted by hand.
+//! Tests with profiles that another tool computed from the same call trees, and with some that were computed by hand.
 
 ghost use Rattle.rv_count_tables.specs.Table.{IsValidTable};
 
@@ -13,10 +13,10 @@ use std::alloc::Global;
 use std::rt::HostRuntime;
 use std::test::Fail;
 
-// The tables below are of an image whose file is empty.
+// The image of the tables below has an empty file.
 const FILE: &[u8] = b"";
 
-// Recursion, a jump out of six calls, a table of functions, and printf.
+// Recursion, a jump that leaves six calls at once, a table of functions, and printf.
 const TAIL: &str = "\
 rvcounts 1
 image e3b0c44298fc1c149afbf4c8996fb92427ae41e4649b934ca495991b7852b855 build/tail.elf
@@ -137,7 +137,7 @@ build/hand.elf,_start,80000000,19,67,1
 build/hand.elf,main,800000b0,12,48,1
 ";
 
-// `f` ends three call paths and occurs twice in one of them; the code that ran first has no symbol.
+// `f` is the last function of three call paths, and occurs twice in one of them; the code that ran first has no symbol.
 const MUTUAL: &str = "\
 rvcounts 1
 image e3b0c44298fc1c149afbf4c8996fb92427ae41e4649b934ca495991b7852b855 a,b.elf
@@ -179,7 +179,7 @@ a.elf: 200000000000000 steps
                 1   0.00%                1   0.00%                     1  once
 ";
 
-// One step of 20,000 is half of a hundredth of a percent.
+// One of 20,000 steps is 0.005 percent, halfway between two values of two decimals.
 const HALF: &str = "\
 rvcounts 1
 image e3b0c44298fc1c149afbf4c8996fb92427ae41e4649b934ca495991b7852b855 a.elf
@@ -195,7 +195,7 @@ a.elf: 20000 steps
             1   0.01%          1   0.01%         1  once
 ";
 
-// A run that reached an instruction and ended before executing it, and a run of one step.
+// A run that ended before its first instruction was executed, and a run of one step.
 const NONE_AND_ONE: [(&str, &str); 3] = [
     (
         "rvcounts 1\nimage e3b0c44298fc1c149afbf4c8996fb92427ae41e4649b934ca495991b7852b855 a.elf\nspot 0 00000000 1 0 ?\ndone 1 1\n",
@@ -272,7 +272,7 @@ fn check_rows(
     Ok(())
 }
 
-// The functions of an image are sorted by their own steps.
+// The functions of an image are sorted by own steps.
 #[test]
 fn functions_stand_by_own_steps(rt: HostRuntime) -> Result<(), Fail> {
     let alloc = rt.alloc();
@@ -315,7 +315,7 @@ fn sums_have_64_bits(rt: HostRuntime) -> Result<(), Fail> {
     Ok(())
 }
 
-// A table has call stacks exactly if it has a call tree for at least one image.
+// A table has call stacks if and only if it has a call tree for at least one image.
 #[test]
 fn some_tables_have_stacks(rt: HostRuntime) -> Result<(), Fail> {
     let alloc = rt.alloc();

@@ -30,7 +30,7 @@ pub(crate) fn push_steps_line(
     )
 }
 
-// Returns " step" if the count is 1, and otherwise " steps", followed by a line feed.
+// Returns ` step` if the count is 1, and otherwise ` steps`, followed by a line feed.
 fn steps_text(count: u64) -> &'static str
     ensures { result.now ≡ steps_text count }
 {
@@ -48,7 +48,7 @@ pub(crate) fn push_column_header(bytes: &mut Vec<u8>, columns: Columns) -> Resul
     push_text(bytes, "  function\n")
 }
 
-// Appends the header of a column of numbers, right-aligned, and of the column of their percentages.
+// Appends the heading of a column of numbers, right-aligned, and the heading of the column with their percentages.
 #[tactic(auto, unfolding(crate::specs::Text::share_header))]
 fn push_share_header(bytes: &mut Vec<u8>, width: usize, word: &str) -> Result<(), AllocError>
     ensures { OnOk result (bytes.new.items ≡ bytes.old.items ++ share_header width word.now) }
@@ -66,7 +66,7 @@ fn push_right_aligned_word(bytes: &mut Vec<u8>, width: usize, word: &str) -> Res
     push_text(bytes, word)
 }
 
-/// Appends the line of a function, given the total steps of its image: its numbers, each right-aligned in its column, and its name.
+/// Appends the line of a function: its numbers, each right-aligned in its column, and its name. `steps` is the total of its image.
 #[tactic(auto, unfolding(crate::specs::Text::function_line))]
 pub(crate) fn push_function_line(
     alloc: Global,
@@ -92,7 +92,7 @@ pub(crate) fn push_function_line(
     )
 }
 
-// Appends the number `part`, right-aligned in a column of this width, and its percentage of `whole`.
+// Appends the number `part`, right-aligned in a column of this width, and the percentage of `whole` that it is.
 #[tactic(auto, unfolding(crate::specs::Text::share))]
 fn push_share(
     alloc: Global,
@@ -137,7 +137,7 @@ fn push_percent(alloc: Global, bytes: &mut Vec<u8>, count: u64) -> Result<(), Al
     )
 }
 
-/// Appends the line that says how many functions are not shown; nothing if there are none.
+/// Appends the line that says how many functions are not shown; nothing if all are.
 pub(crate) fn push_more_line(bytes: &mut Vec<u8>, hidden: usize) -> Result<(), AllocError>
     ensures { OnOk result (bytes.new.items ≡ bytes.old.items ++ more_line hidden) }
 {
@@ -148,7 +148,7 @@ pub(crate) fn push_more_line(bytes: &mut Vec<u8>, hidden: usize) -> Result<(), A
     push_text(bytes, more_functions_text(hidden))
 }
 
-// Returns " more function" if the count is 1, and otherwise " more functions", followed by a line feed.
+// Returns ` more function` if the count is 1, and otherwise ` more functions`, followed by a line feed.
 fn more_functions_text(count: usize) -> &'static str
     ensures { result.now ≡ more_functions_text count }
 {

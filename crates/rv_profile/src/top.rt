@@ -5,7 +5,7 @@ ghost use Rattle.rv_profile.specs.Text.{first_or_all};
 
 use crate::function::FunctionProfile;
 
-/// Returns the first `top` functions; all functions if no number is given.
+/// Returns the first `top` functions, or all functions if `top` is not given or there are fewer.
 pub(crate) fn first_or_all<'f, 't>(
     top: Option<u32>,
     functions: &'f [FunctionProfile<'t>],

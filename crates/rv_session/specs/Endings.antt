@@ -6,13 +6,13 @@ use Rattle.rv_history.specs.declared_ending.Ending.{Ending}
 use Rattle.rv_history.specs.declared_ending.Ending.TheVariants as ending
 use Rattle.rv_gdb_protocol.specs.Stops.{Aborted, BadCall, BusError, Exited, FileTooLarge, IllegalInstruction, NoEnding, SegmentFault, EndKind, UsedUp, end_kind_of_fault}
 
--- the kind of end that a stop reports if the run ended with this ending
+-- the kind of end that a stop shows if the run ended with this ending
 abbrev pub end_kind_of_ending : Ending → EndKind
 end_kind_of_ending (ending.Exit code) = Exited
 end_kind_of_ending (ending.Fault kind pc value) = end_kind_of_fault kind
 end_kind_of_ending ending.Budget = UsedUp
 
--- the kind of end that a move with this result reports; `NoEnding` if it did not reach the end of the run
+-- the kind of end that a move with this result shows; `NoEnding` if it did not reach the end of the run
 abbrev pub end_kind_of_move_result : MoveResult → EndKind
 end_kind_of_move_result (move_result.End ending) = end_kind_of_ending ending
 end_kind_of_move_result move_result.Done = NoEnding
@@ -21,7 +21,7 @@ end_kind_of_move_result move_result.WatchTriggered = NoEnding
 end_kind_of_move_result move_result.RunStart = NoEnding
 end_kind_of_move_result move_result.Interrupted = NoEnding
 
--- the text if a stop reports an end of the run, and an empty text for `NoEnding`
+-- the text if a stop shows an end of the run; empty for `NoEnding`
 abbrev pub text_at_end : EndKind → List ℕ → List ℕ
 text_at_end NoEnding text = []
 text_at_end Exited text = text

@@ -19,19 +19,19 @@ use Rattle.rv_session.specs.declared.session.Session.{Session}
 
 -- ---- sent packets
 
--- the maximum number of console bytes in a packet; each byte takes two hexadecimal digits
+-- the maximum number of bytes of console output in a packet, which has two digits for each
 abbrev pub max_printed : ℕ
 max_printed = 8184
 
--- the bytes of the console output `printed` in its packet `number`, counted from 0
+-- the console output of the packet with this number, counted from 0
 abbrev pub printed_part : List ℕ → ℕ → List ℕ
 printed_part printed number = take max_printed (drop (number * max_printed) printed)
 
--- packet `number` of the console output: `O` and its bytes as hexadecimal digits
+-- the packet of console output with this number, counted from 0: `O` and its bytes as hexadecimal digits
 abbrev pub printed_packet : List ℕ → ℕ → List ℕ
 printed_packet printed number = packet_of (79 ∷ encode_lower (printed_part printed number))
 
--- the packets with all bytes of the console output, in order
+-- packets with all of the console output, in order
 unfoldable pub printed_packets : List ℕ → List ℕ
 printed_packets printed =
     flat_map (printed_packet printed) (range_with_len 0 ((length printed + (max_printed - 1)) / max_printed))
@@ -41,16 +41,16 @@ abbrev pub body_packet : Option (List ℕ) → List ℕ
 body_packet (Some body) = packet_of body
 body_packet None = []
 
--- the packets of a reply: first its console output, then the text about the run's end, then its body
+-- the packets of a reply: for its console output, for the text that describes the run's end, and for its body
 abbrev pub packets_of : Reply → List ℕ
 packets_of reply = printed_packets reply.printed ++ (printed_packets reply.end_text ++ body_packet reply.body)
 
--- the last packet that was sent: the packet with this body, or `sent`, the earlier one, if there is no body
+-- the last packet that was sent: the packet with this body, or the earlier one, `sent`, if there is no body
 abbrev pub last_packet_after : List ℕ → Option (List ℕ) → List ℕ
 last_packet_after sent (Some body) = packet_of body
 last_packet_after sent None = sent
 
--- the session after a reply was sent; it stores the last packet in case gdb requests it again
+-- the session after a reply was sent; it stores the last packet, which gdb can request again
 abbrev pub with_sent : Session → Reply → Session
 with_sent session reply = record session { sent = last_packet_after session.sent reply.body }
 
@@ -70,8 +70,8 @@ pub record AppendsSome (old new : List ℕ) (IsSuch : List ℕ → Type 0) : Typ
 
 -- ---- received items
 
--- a packet with this body is received: `out` is its acknowledgement, if packets are acknowledged, followed by the reply to its request, and
--- `next` is the session after it
+-- what happens when a packet with this body is received: `out` is sent, which is the acknowledgement, if packets are acknowledged, and the
+-- reply to the request; `next` is the session afterwards
 pub record IsPacketResponse (session : Session) (body out : List ℕ) (next : Session) : Type 0 where
   pub reply : Reply
   -- the session after the reply
@@ -80,8 +80,8 @@ pub record IsPacketResponse (session : Session) (body out : List ℕ) (next : Se
   pub out_is : out ≡ acknowledgement session ++ packets_of reply
   pub next_is : next ≡ with_sent after_reply reply
 
--- `out` is sent for a packet with this body: `-`, which requests it again, if the Bool says that its checksum must be rejected; otherwise
--- its acknowledgement and the reply
+-- what happens when a packet with this body is received: if the Bool says that it is rejected, `-` is sent, which requests it again;
+-- otherwise, the acknowledgement and the reply
 abbrev pub IsCheckedPacketResponse : Session → Bool → List ℕ → List ℕ → Session → Type 0
 IsCheckedPacketResponse session true body out next = (out ≡ 45 ∷ []) × (next ≡ session)
 IsCheckedPacketResponse session false body out next = IsPacketResponse session body out next
@@ -91,7 +91,7 @@ abbrev pub is_wrong_checksum : Checksum → Bool
 is_wrong_checksum checksum.Wrong = true
 is_wrong_checksum checksum.Right = false
 
--- `out` is sent for a received item, and `next` is the session after it; Ctrl-C has no effect, since no move is in progress
+-- `out` is sent when an item is received, and `next` is the session afterwards; Ctrl-C has no effect, since no move is in progress
 abbrev pub IsResponse : Session → Incoming → List ℕ → Session → Type 0
 IsResponse session incoming.Interrupt out next = (out ≡ []) × (next ≡ session)
 IsResponse session incoming.Acknowledged out next = (out ≡ []) × (next ≡ session)
@@ -101,25 +101,25 @@ IsResponse session incoming.TooLong out next =
 IsResponse session (incoming.Packet body sum) out next =
     IsCheckedPacketResponse session (session.acknowledges && is_wrong_checksum sum) body out next
 
--- `out` is sent for a received item, and `next` is the session after it; if the Bool says that the session is over, nothing is sent and
--- nothing changes
+-- `out` is sent when an item is received, and `next` is the session afterwards; if the Bool says that the session is over, nothing is sent
+-- and nothing changes
 abbrev pub IsResponseUnless : Bool → Session → Incoming → List ℕ → Session → Type 0
 IsResponseUnless true session received out next = (out ≡ []) × (next ≡ session)
 IsResponseUnless false session received out next = IsResponse session received out next
 
--- `out` is sent for a received item, and `next` is the session after it; if no item is complete (`None`), nothing is sent and nothing
+-- `out` is sent when an item is received, and `next` is the session afterwards; if there is no complete item, nothing is sent and nothing
 -- changes
 abbrev pub IsRespondedTo : Session → Option Incoming → List ℕ → Session → Type 0
 IsRespondedTo session None out next = (out ≡ []) × (next ≡ session)
 IsRespondedTo session (Some received) out next = IsResponseUnless session.is_over session received out next
 
--- `out` is sent when this byte is received, and `next` is the session after it
+-- `out` is sent when this byte is received, and `next` is the session afterwards
 abbrev pub IsByteReceived : Session → ℕ → List ℕ → Session → Type 0
 IsByteReceived session byte out next = IsRespondedTo (record session { reader = state_after_byte session.reader byte })
     (incoming_at session.reader byte) out next
 
--- the session makes the requested move: `out` is sent for it, and `next` is the session after it; `may_break` says whether the move can be
--- interrupted
+-- the session makes the requested move, for which `out` is sent, and `next` is the session afterwards; `may_break` says whether an
+-- interrupt may end the move
 pub record IsRequestedMoveMade (end_text : List ℕ) (may_break : Bool) (session : Session) (out : List ℕ) (next : Session) : Type 0 where
   -- the requested move
   pub requested : Move
@@ -131,8 +131,8 @@ pub record IsRequestedMoveMade (end_text : List ℕ) (may_break : Bool) (session
   pub out_is : out ≡ packets_of reply
   pub next_is : next ≡ with_sent after_reply reply
 
--- whether a move can be interrupted that is made before these bytes are received: whether the first byte is 0x03, which gdb sends for
--- Ctrl-C; `default` if there are no bytes
+-- whether an interrupt may end a move that is made before these bytes are received: the first of them is 0x03, which gdb sends for Ctrl-C;
+-- `default` if there are none
 abbrev pub is_interrupted : List ℕ → Bool → Bool
 is_interrupted [] default = default
 is_interrupted (byte ∷ rest) default = byte == 3
@@ -142,8 +142,8 @@ abbrev pub HasNoInterrupt : List ℕ → Type 0
 HasNoInterrupt [] = ⊤
 HasNoInterrupt (byte ∷ rest) = (byte ≢ 3) × HasNoInterrupt rest
 
--- `out` is sent while these bytes are received one after another, and the session changes accordingly; a requested move is made before the
--- next byte is received, and `may_break` says whether a move that the last byte requests can be interrupted
+-- `out` is sent when these bytes are received one after another, and the session changes accordingly; a requested move is made before the
+-- next byte is received; `may_break` says whether an interrupt may end a move that the last byte requests
 pub data IsReceived (end_text : List ℕ) (may_break : Bool) : Session → List ℕ → List ℕ → Session → Type 0 where
   no_bytes : (session : Session) → IsReceived end_text may_break session [] [] session
   byte_first : (session between next : Session) (byte : ℕ) (rest out more : List ℕ) → session.requested ≡ None

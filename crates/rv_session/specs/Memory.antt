@@ -1,4 +1,4 @@
--- The memory that gdb sees.
+-- Memory as gdb sees it.
 use Rattle.std.specs.Prelude.{ℕ, List, [], ◌∷◌, ◌==◌, ◌&&◌, ◌+◌, ◌-◌, Bool, true, false, Option, Some, None, map, min, nat_lt}
 use Rattle.std.specs.FinMap as fin
 use Rattle.std.specs.List.{range_with_len}
@@ -11,7 +11,7 @@ leading_values [] = []
 leading_values (None ∷ rest) = []
 leading_values (Some byte ∷ rest) = byte ∷ leading_values rest
 
--- the maximum number of memory bytes in a reply; each byte takes two hexadecimal digits
+-- the maximum number of bytes of memory in a reply, which has two digits for each
 abbrev pub max_memory_bytes : ℕ
 max_memory_bytes = 8184
 
@@ -19,20 +19,20 @@ max_memory_bytes = 8184
 abbrev pub end_of_addresses : ℕ
 end_of_addresses = 4294967296
 
--- how many bytes of a range are read: at most as many as fit in a reply, and none after the last address
+-- how many bytes of a range are read: no more than fit in a reply, and none past the end of the address space
 abbrev pub bytes_requested : Range → ℕ
 bytes_requested range = min (min range.count max_memory_bytes) (end_of_addresses - range.address)
 
--- the bytes of a range before the first address that is in no region
+-- the bytes of a range, up to the first address outside the regions
 unfoldable pub bytes_from : BusContents → Range → List ℕ
 bytes_from bus range = leading_values (map (fin.get bus.memory) (range_with_len range.address (bytes_requested range)))
 
--- whether the `Option` has a value, and the value is `byte`
+-- whether the option is this byte
 abbrev pub is_byte : Option ℕ → ℕ → Bool
 is_byte (Some other) byte = other == byte
 is_byte None byte = false
 
--- whether memory has these bytes at `address` and the following addresses, none of which is after the last address
+-- whether memory has these bytes from `address` on; false if they extend past the end of the address space
 unfoldable pub has_bytes_at : BusContents → ℕ → List ℕ → Bool
 has_bytes_at bus address [] = true
 has_bytes_at bus address (byte ∷ rest) =

@@ -42,7 +42,7 @@ shown_count count = min count 4294967295
 abbrev pub script_bytes_consumed : Session → ℕ
 script_bytes_consumed session = session.script - length (current_state session).bus.script
 
--- the value at the current step of register x`number` if the number is below 32, and of the pc otherwise
+-- the value at the current step of the register `x<number>` if the number is below 32, and of the pc otherwise
 abbrev pub hart_value : Session → ℕ → ℕ
 hart_value session number = if nat_lt number 32 then register (current_state session) number else (current_state session).pc
 
@@ -86,7 +86,7 @@ stat_words size = 0 ∷ 0 ∷ 0x8124 ∷ 0 ∷ 0 ∷ 0 ∷ 0 ∷ 0 ∷ size ∷ 
 abbrev pub size_reply : ℕ → Reply
 size_reply size = with_body (file_reply_prefix 64 ++ flat_map (to_be_bytes w32) (stat_words (shown_count size)))
 
--- the reply to a request whose reply is the same in every session; an empty reply for any other request
+-- the reply to a request if it is the same in every session, and a reply with an empty body to any other request
 abbrev pub common_reply : Request → Reply
 common_reply request = with_body (unwrap_or (fixed_reply request) [])
 
@@ -125,7 +125,7 @@ command_text session text =
 
 -- ---- requests that change the session
 
--- if the Bool is true, `next` is the session at the first step at which `count` has this value; if it is false, `count` never has it, and
+-- if the Bool is true, `next` is the session at the first step at which `count` has this value; if it is false, there is no such step, and
 -- the session is unchanged
 abbrev pub IsSeekResult : Bool → Session → Count → ℕ → Session → Type 0
 IsSeekResult true session count value next =
@@ -133,22 +133,22 @@ IsSeekResult true session count value next =
 IsSeekResult false session count value next =
     IsFirstStepIfAny count value session.history.budget session.history.start None × (next ≡ session)
 
--- a request to move to the first step at which `count` has this value: the reply is `OK` if there is such a step; otherwise it is a
--- refusal, and the session is unchanged
+-- a seek to the first step at which `count` has this value: the reply is `OK` if there is such a step; otherwise it is a refusal, and the
+-- session is unchanged
 pub record IsSeekHandled (session : Session) (count : Count) (value : ℕ) (reply : Reply) (next : Session) : Type 0 where
   pub succeeds : Bool
   pub reply_is : reply ≡ ok_if succeeds refusal.NotReached
   pub seek_result : IsSeekResult succeeds session count value next
   pub run : next ≡ at_step session next.history.step
 
--- a request to move to the step `step`: the reply is `OK` if the run reaches it; otherwise it is a refusal, and the session is unchanged
+-- a seek to the step `step`: the reply is `OK` if the run reaches it; otherwise it is a refusal, and the session is unchanged
 abbrev pub IsStepSeekHandled : Session → ℕ → Reply → Session → Type 0
 IsStepSeekHandled session step reply next =
     (reply ≡ ok_if (nat_le step (last_step session.history.budget session.history.start)) refusal.NotReached)
     × (next ≡ (if nat_le step (last_step session.history.budget session.history.start) then at_step session step else session))
 
--- a write to a register: if it is a register of the hart, the write is granted only if the value does not change; if it is a count of the
--- run, the session moves to the first step at which the count has the value
+-- a write to a register: for a register of the hart, it is accepted only if the register has this value already; for a count of the run,
+-- the session moves to the first step at which the count has this value
 abbrev pub IsRegisterWriteHandled : Session → Register → ℕ → Reply → Session → Type 0
 IsRegisterWriteHandled session (reg.Hart number) value reply next =
     (reply ≡ ok_if (value_of session (reg.Hart number) == value) refusal.WouldChange) × (next ≡ session)
@@ -156,13 +156,13 @@ IsRegisterWriteHandled session reg.Steps value reply next = IsStepSeekHandled se
 IsRegisterWriteHandled session reg.Printed value reply next = IsSeekHandled session count.Printed value reply next
 IsRegisterWriteHandled session reg.Taken value reply next = IsSeekHandled session count.Taken value reply next
 
--- the reply to a request to set a stoppoint, given its result: `OK`, and `next` has the new stops; or the refusal, and `next` is the
--- unchanged session
+-- the reply to a request to set a breakpoint or watchpoint, given its result: `OK` with the new stops, or the refusal, with the session
+-- unchanged
 abbrev pub IsSetReply : Session → Result Stops Refusal → Reply → Session → Type 0
 IsSetReply session (Ok stops) reply next = (reply ≡ ok_reply) × (next ≡ record session { stops = stops })
 IsSetReply session (Err refusal) reply next = (reply ≡ error_reply refusal) × (next ≡ session)
 
--- `reply` is the reply to a request to set the stoppoint `stoppoint`, and `next` is the session after it
+-- `reply` is the reply to a request to set this breakpoint or watchpoint, and `next` is the session afterwards
 pub record IsStoppointSet (session : Session) (stoppoint : Stoppoint) (reply : Reply) (next : Session) : Type 0 where
   pub outcome : Result Stops Refusal
   pub added_is : IsStoppointAdded session.stops (current_state session).bus stoppoint outcome
@@ -172,14 +172,14 @@ pub record IsStoppointSet (session : Session) (stoppoint : Stoppoint) (reply : R
 abbrev pub command_reply : Session → List ℕ → Reply
 command_reply session text = if is_reset text then ok_reply else with_console (command_text session text) (codes "OK")
 
--- `reply` is the reply to the `monitor` command `text`, and `next` is the session after it: at step 0 after a reset, and unchanged
--- otherwise
+-- `reply` is the reply to the `monitor` command `text`, and `next` is the session afterwards: at step 0 after a reset, and otherwise
+-- unchanged
 abbrev pub IsCommandHandled : Session → List ℕ → Reply → Session → Type 0
 IsCommandHandled session text reply next =
     (reply ≡ command_reply session text) × (next ≡ (if is_reset text then at_step session 0 else session))
 
--- `reply` is the reply to the request, and `next` is the session after it; a requested move is only recorded, and its reply follows once it
--- has been made
+-- `reply` is the reply to the request, and `next` is the session afterwards; a requested move is only recorded, and its reply follows when
+-- it is made
 abbrev pub IsReply : Session → Request → Reply → Session → Type 0
 IsReply session (gdb_request.Move requested) reply next = (reply ≡ empty_reply) × (next ≡ record session { requested = Some requested })
 IsReply session (gdb_request.WriteRegister register value) reply next = IsRegisterWriteHandled session register value reply next

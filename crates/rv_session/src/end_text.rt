@@ -1,23 +1,23 @@
-//! The text about a run's end.
+//! A text that describes the end of a run.
 
 use rv_history::Machine;
 use std::alloc::{AllocError, Global};
 
-/// Provides a text about how a run ended.
+/// A source of the text that describes the end of a run.
 pub trait EndText {
     ghost use Rattle.std.specs.Prelude.{◌≡◌, ◌++◌, ℕ, List, OnOk};
     ghost use Rattle.rv_history.specs.Places.{IsReached};
     ghost use Rattle.rv_history.specs.Machine.{state_of};
     ghost use Rattle.rv_history.specs.State.{State};
 
-    // The start of the run that it describes.
+    // The start of the run.
     ghost start: { Self → State };
 
-    // The text about the run's end.
+    // The text that describes the run's end.
     ghost end_text: { Self → List ℕ };
 
-    /// Appends the text about the run's end, given the machine after `steps` steps of the run. The nearer the end of the run is, the less
-    /// time the call takes.
+    /// Appends the text that describes the run's end. `machine` is the machine after `steps` steps of the run; the closer this is to the
+    /// end, the less time the call takes.
     fn push_end_text(
         &self,
         alloc: Global,

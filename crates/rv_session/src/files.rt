@@ -1,4 +1,4 @@
-//! The image as gdb requests it: a single file, which is open as descriptor 5.
+//! The image file, which gdb can read: the only file, with the descriptor 5.
 
 ghost use Rattle.std.specs.Prelude.{◌≡◌, ◌≤◌, ◌++◌, IfOk, OnOk, codes, if◌then◌else◌, length};
 ghost use Rattle.std.specs.Int.{w32, to_be_bytes};
@@ -14,13 +14,13 @@ use crate::session::Session;
 use rv_gdb_protocol::{Part, Refusal};
 use std::alloc::{AllocError, Global};
 
-/// The maximum number of bytes in one part of the image file, each of which may have to be escaped.
+/// The maximum number of bytes of the image file in one reply. The reply fits in a packet even if all of them must be escaped.
 const MAX_PART: usize = 8180;
 
 /// The size of gdb's `struct stat` in bytes.
 const STAT_BYTES: u32 = 64;
 
-/// The `st_mode` of a readable file.
+/// The `st_mode` of a regular file that everyone can read.
 const READABLE_FILE: u32 = 0x8124;
 
 impl Session {
@@ -36,7 +36,7 @@ impl Session {
         }
     }
 
-    /// Handles `vFile:fstat:5`: returns big-endian words of four bytes, all 0 except the mode and the size.
+    /// Handles `vFile:fstat:5`: returns gdb's `struct stat`, whose big-endian words are 0 except for the mode and the size.
     pub(crate) fn file_size(&self, alloc: Global) -> Result<Reply, AllocError>
         ensures { IfOk result (λ reply. reply ≡ size_reply (length self.now.program.image)) }
     {
@@ -47,7 +47,7 @@ impl Session {
         Ok(Reply::with_body(alloc, body))
     }
 
-    /// Handles `vFile:pread:5,`: returns a part of the image file.
+    /// Handles `vFile:pread:5,`: returns a part of the image file, preceded by its length.
     pub(crate) fn read_file(&self, alloc: Global, part: Part) -> Result<Reply, AllocError>
         ensures { IfOk result (λ reply. reply ≡ file_reply (file_part self.now.program.image part)) }
     {

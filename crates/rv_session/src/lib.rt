@@ -1,8 +1,8 @@
-//! A gdb session over a run, as bytes received and bytes to send.
+//! A gdb session that debugs a run, as bytes received and bytes to send.
 //!
-//! A [`Session`] is at a step of a run, and gdb moves it forwards and backwards. It shows registers and memory as they are at that step,
-//! and refuses every write that would change them. It receives one byte at a time. A requested move is made separately, and can be
-//! interrupted. The text about the run's end comes from an [`EndText`].
+//! A [`Session`] has a position in a run, and gdb moves it forwards and backwards. It shows registers and memory as they are at this
+//! position, and refuses every write that would change them. It receives one byte at a time. A requested move is made by a separate call,
+//! and can be interrupted. The text that describes the run's end comes from an [`EndText`].
 #![tactic(auto)]
 
 mod end_text;
@@ -28,6 +28,6 @@ pub use program::Program;
 pub use reply::Reply;
 pub use session::Session;
 
-// From the crates below: what this interface names, and what its callers need with it.
+// Re-exports from lower crates: the types in this interface, and what its callers need with them.
 pub use rv_gdb_protocol::{Bytes, push_frame};
 pub use rv_history::{Bus, Interrupt, Isa, Machine, Map, Misaligned, Region, Start};

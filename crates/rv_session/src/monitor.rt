@@ -1,4 +1,4 @@
-//! The `monitor` commands. Their output is sent before an `OK`.
+//! The `monitor` commands.
 
 ghost use Rattle.std.specs.Prelude.{◌≡◌, ◌++◌, IfOk, codes};
 ghost use Rattle.std.specs.Fmt.{decimal};
@@ -9,12 +9,12 @@ use crate::reply::Reply;
 use crate::session::Session;
 use std::alloc::{AllocError, Global};
 
-/// The output of `monitor help` and of every unknown command.
+/// The output of `monitor help`, and of every unknown command.
 const HELP: &str =
     "when: how many steps were executed\nconsole: the output up to here\ninput: how much of the script was read\nreset, reset halt: go back to the start of the run\n";
 
 impl Session {
-    /// Handles `qRcmd,`: runs a `monitor` command, and returns its output and `OK`.
+    /// Handles `qRcmd,`: runs a `monitor` command, and returns its output followed by `OK`. A reset has no output.
     pub(crate) fn run_command(&mut self, alloc: Global, text: &[u8]) -> Result<Reply, AllocError>
         ensures { IfOk result (λ reply. IsCommandHandled self.old text.now reply self.new) }
     {
@@ -26,7 +26,7 @@ impl Session {
         Reply::with_console(alloc, printed)
     }
 
-    // Returns the output of a `monitor` command other than a reset.
+    // Returns the output of a `monitor` command that is not a reset.
     fn command_text(&self, alloc: Global, text: &[u8]) -> Result<Vec<u8>, AllocError>
         ensures { IfOk result (λ printed. printed.items ≡ command_text self.now text.now) }
     {

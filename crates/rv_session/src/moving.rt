@@ -1,4 +1,4 @@
-//! Moves in the run, and the stops that are reported for them.
+//! Moves in the run, and the stops that they report.
 
 ghost use Rattle.std.specs.Prelude.{◌≡◌, IfOk, None, OnOk, is_some, true};
 ghost use Rattle.rv_history.specs.Moves.{IsInterrupted};
@@ -17,8 +17,8 @@ use rv_history::{Bounds, Ending, Interrupt, MoveResult, WatchHit};
 use std::alloc::{AllocError, Global};
 
 impl Session {
-    /// Makes the requested move, and returns the bytes to send for it. If the interrupt is raised, the move ends early and reports an
-    /// interruption. After an error the session must be abandoned.
+    /// Makes the requested move, and returns the bytes to send. If the interrupt is raised, the move ends early and reports an
+    /// interruption. After an error the session cannot be used any more.
     pub fn work<E: EndText, I: Interrupt>(
         &mut self,
         alloc: Global,
@@ -41,7 +41,7 @@ impl Session {
         Ok(out)
     }
 
-    // Handles `vCont;`, `c`, `s`, `bc` and `bs`: makes the move, and returns the reply that reports where it stopped.
+    // Handles `vCont;`, `c`, `s`, `bc` and `bs`: makes the move, and returns the reply that reports why it stopped.
     fn make_requested_move<E: EndText, I: Interrupt>(
         &mut self,
         alloc: Global,
@@ -86,7 +86,7 @@ impl Session {
         }
     }
 
-    // Returns the stop that reports the result of a move.
+    // Returns the stop that a move with this result reports.
     fn stop_of(
         &self,
         alloc: Global,
@@ -105,8 +105,8 @@ impl Session {
         }
     }
 
-    // Returns the stop for a watchpoint hit: the next step triggers the watchpoint if the move was forwards, and the preceding step if it
-    // was backwards.
+    // Returns the stop that a watchpoint hit reports. After a forward move, the step that would come next triggers the watchpoint; after a
+    // backward move, the preceding step did.
     fn watch_stop(&self, alloc: Global, requested: Move) -> Result<Stop, AllocError>
         requires { CanReportHit self.now requested outcome.WatchTriggered }
         ensures { IfOk result (λ stop. stop ≡ watch_stop self.now requested self.now.history.step) }
@@ -120,7 +120,7 @@ impl Session {
         }
     }
 
-    // Returns the text about the run's end if the move reached the end; otherwise an empty text.
+    // Returns the text that describes the run's end if the move reached it, and otherwise an empty text.
     fn end_text_at<E: EndText>(
         &self,
         alloc: Global,
@@ -145,7 +145,7 @@ impl Session {
         Ok(text)
     }
 
-    // Returns the reply with a stop, the console output before it, and the text about the run's end.
+    // Returns the reply with a stop, with the console output that precedes it and the text that describes the run's end.
     fn stop_reply(
         &mut self,
         alloc: Global,
@@ -168,7 +168,7 @@ impl Session {
         })
     }
 
-    // Returns the console output that was not sent yet and counts it as sent, if the move was forwards; otherwise returns an empty text.
+    // Returns the console output that was not sent yet, and counts it as sent, if the move was a forward one. Otherwise returns no output.
     fn take_unsent_console(&mut self, alloc: Global, requested: Move) -> Result<Vec<u8>, AllocError>
         ensures printed { IfOk result (λ printed. printed.items ≡ console_before_stop self.old requested (current_state self.old)) }
         ensures console_sent { IfOk result (λ printed. self.new ≡ record self.old { console_sent = console_sent_after self.old requested (current_state self.old) }) }
@@ -193,7 +193,7 @@ fn is_forward(requested: Move) -> bool
     }
 }
 
-// Returns the stop that reports this watchpoint hit; a stop without a reason if there is no hit.
+// Returns the stop that a watchpoint hit reports. If there is none, it is a stop without a reason.
 fn stop_of_watch_hit(hit: Option<WatchHit>) -> Stop
     ensures { result ≡ stop_of_watch_hit hit }
 {
@@ -205,7 +205,7 @@ fn stop_of_watch_hit(hit: Option<WatchHit>) -> Stop
     }
 }
 
-// Returns the stop that reports this end of the run.
+// Returns the stop that this end of the run reports.
 fn end_stop(ending: Ending) -> Stop
     ensures { result ≡ end_stop ending }
 {

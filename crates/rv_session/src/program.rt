@@ -2,10 +2,10 @@
 
 use rv_gdb_protocol::Bytes;
 
-/// The debugged program: its image file, which gdb can read.
+/// The program that is debugged: its image file, which gdb can read.
 #[derive(Drop)]
 pub struct Program {
-    /// The path of the image file, as gdb shows it.
+    /// The path of the image file that gdb is given.
     pub path: Bytes,
     pub image: Bytes,
 }

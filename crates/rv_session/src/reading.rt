@@ -1,4 +1,4 @@
-//! Registers and memory at the session's current step.
+//! Registers and memory at the session's position.
 
 ghost use Rattle.std.specs.Prelude.{◌≡◌, IfOk};
 ghost use Rattle.std.specs.Str.{bytes_eq};
@@ -14,7 +14,7 @@ use rv_gdb_protocol::{Range, Refusal, Register, push_memory, push_register, push
 use rv_history::Bus;
 use std::alloc::{AllocError, Global};
 
-/// The maximum number of memory bytes in a reply, two digits each.
+/// The maximum number of bytes of memory in a reply, which has two digits for each.
 const MAX_BYTES: u32 = 8184;
 
 impl Session {
@@ -49,7 +49,7 @@ impl Session {
         }
     }
 
-    // Returns the value at the current step of register x`number` if the number is below 32, and of the pc otherwise.
+    // Returns the value at the current step of the register `x<number>` if the number is below 32, and of the pc otherwise.
     fn hart_value(&self, number: u32) -> u32
         ensures { result ≡ hart_value self.now number }
     {
@@ -69,7 +69,8 @@ impl Session {
         self.script.saturating_sub(remaining)
     }
 
-    /// Handles `m`: returns the reply with the bytes of a range before the first address that is in no region.
+    /// Handles `m`: returns the reply with the bytes of a range, up to the first address outside the regions. If there are none, returns a
+    /// refusal.
     pub(crate) fn memory(&self, alloc: Global, range: Range) -> Result<Reply, AllocError>
         ensures { IfOk result (λ reply. reply ≡ memory_reply (bytes_from (current_state self.now).bus range)) }
     {
@@ -97,7 +98,7 @@ pub(crate) fn shown_count(count: usize) -> u32
     count.min(u32::MAX as usize) as u32
 }
 
-// Returns how many bytes of a range are read: at most as many as fit in a reply, and none after the last address.
+// Returns how many bytes of a range to read: no more than fit in a reply, and none past the end of the address space.
 fn bytes_requested(range: Range) -> u32
     ensures { result ≡ bytes_requested range }
 {
@@ -106,7 +107,7 @@ fn bytes_requested(range: Range) -> u32
     u64::from(count).min(room) as u32
 }
 
-// Returns the bytes of a range before the first address that is in no region.
+// Returns the bytes of a range, up to the first address outside the regions.
 fn bytes_from(alloc: Global, bus: &Bus, range: Range) -> Result<Vec<u8>, AllocError>
     ensures { IfOk result (λ bytes. bytes.items ≡ bytes_from bus.now range) }
 {

@@ -14,12 +14,12 @@ use rv_gdb_protocol::{
 };
 use std::alloc::{AllocError, Global};
 
-/// The maximum number of console bytes in a packet, which has two digits for each.
+/// The maximum number of bytes of console output in a packet, which has two digits for each.
 const MAX_PRINTED: usize = 8184;
 
 impl Session {
-    /// Receives a byte from gdb and returns the bytes to send. If the byte requests a move, [`Session::work`] must make it before another
-    /// byte is received. After an error the session must be abandoned.
+    /// Receives a byte from gdb, and returns the bytes to send. If the byte requests a move, [`Session::work`] must be called before the
+    /// next byte is received. After an error the session cannot be used any more.
     pub fn receive(&mut self, alloc: Global, byte: u8) -> Result<Vec<u8>, AllocError>
         requires { self.old.requested ≡ None }
         ensures received { IfOk result (λ out. IsByteReceived self.old byte out.items self.new) }
@@ -31,7 +31,7 @@ impl Session {
         Ok(out)
     }
 
-    // Appends the bytes to send when this byte is received.
+    // Receives a byte, and appends the bytes to send.
     fn receive_byte(&mut self, alloc: Global, out: &mut Vec<u8>, byte: u8) -> Result<(), AllocError>
         ensures { OnOk result (AppendsSome out.old.items out.new.items
             (λ sent. IsByteReceived self.old byte sent self.new)) }
@@ -42,7 +42,8 @@ impl Session {
         }
     }
 
-    // Appends the bytes to send for a received item. Ctrl-C has no effect here, since no move is in progress.
+    // Appends the bytes to send for an item that was received. Ctrl-C has no effect here, since no move is in progress. Once the session is
+    // over, nothing is sent.
     fn respond(
         &mut self,
         alloc: Global,
@@ -69,7 +70,7 @@ impl Session {
         }
     }
 
-    // Appends the last packet that was sent, if packets are acknowledged; otherwise nothing.
+    // Appends the last packet that was sent, if packets are acknowledged.
     fn resend(&self, out: &mut Vec<u8>) -> Result<(), AllocError>
         ensures { OnOk result (out.new.items ≡ out.old.items ++ last_packet_if_acknowledged self.now) }
     {
@@ -90,7 +91,7 @@ impl Session {
         self.send(alloc, out, &reply)
     }
 
-    // Whether a packet must be rejected: its checksum is wrong, and packets are acknowledged.
+    // Whether a packet must be rejected: its checksum is wrong, and packets are still acknowledged.
     fn is_rejected(&self, sum: Checksum) -> bool
         ensures { result ≡ (self.now.acknowledges && is_wrong_checksum sum) }
     {
@@ -113,7 +114,7 @@ impl Session {
         self.send(alloc, out, &reply)
     }
 
-    // Appends `+` if packets are acknowledged; otherwise nothing.
+    // Appends `+`, if packets are acknowledged.
     fn acknowledge(&self, out: &mut Vec<u8>) -> Result<(), AllocError>
         ensures { OnOk result (out.new.items ≡ out.old.items ++ acknowledgement self.now) }
     {
@@ -154,7 +155,7 @@ impl Session {
     }
 }
 
-// Appends `-`, which asks gdb to send its last packet again.
+// Appends `-`, which requests that gdb send its last packet again.
 fn request_resend(out: &mut Vec<u8>) -> Result<(), AllocError>
     ensures { OnOk result (out.new.items ≡ out.old.items ++ 45 ∷ []) }
 {
@@ -172,7 +173,7 @@ fn is_wrong_checksum(sum: Checksum) -> bool
     }
 }
 
-// Appends the packets with all bytes of the console output, in order.
+// Appends packets with all of the console output, in order.
 #[tactic(auto, unfolding(crate::specs::Incoming::printed_packets))]
 fn push_printed_packets(alloc: Global, out: &mut Vec<u8>, printed: &[u8]) -> Result<(), AllocError>
     ensures { OnOk result (out.new.items ≡ out.old.items ++ printed_packets printed.now) }
@@ -184,7 +185,7 @@ fn push_printed_packets(alloc: Global, out: &mut Vec<u8>, printed: &[u8]) -> Res
     Ok(())
 }
 
-// Appends packet `number` of the console output, counted from 0.
+// Appends the packet of console output with this number, counted from 0.
 fn push_printed_packet(
     alloc: Global,
     out: &mut Vec<u8>,
@@ -198,7 +199,7 @@ fn push_printed_packet(
     push_frame(alloc, out, body.as_slice())
 }
 
-// Returns the bytes of the console output in its packet `number`, counted from 0.
+// Returns the console output of the packet with this number, counted from 0.
 fn printed_part(printed: &[u8], number: usize) -> &[u8]
     ensures { result.now ≡ printed_part printed.now number }
 {

@@ -18,7 +18,7 @@ use rv_gdb_protocol::{
 use std::alloc::{AllocError, Global};
 
 impl Session {
-    /// Returns the reply to a request. A move is only recorded; its reply follows once [`Session::work`] has made it.
+    /// Returns the reply to a request. A requested move is only recorded; its reply follows when [`Session::work`] makes it.
     pub(crate) fn reply_to(&mut self, alloc: Global, request: &Request) -> Result<Reply, AllocError>
         ensures { IfOk result (λ reply. IsReply self.old request.now reply self.new) }
     {
@@ -60,7 +60,7 @@ impl Session {
         }
     }
 
-    // Handles `?`: returns the reply with the last stop.
+    // Handles `?`: returns the reply with the stop that was reported last.
     fn last_stop_reply(&self, alloc: Global) -> Result<Reply, AllocError>
         ensures { IfOk result (λ reply. reply ≡ with_body (stop_text self.now.last_stop)) }
     {
@@ -93,7 +93,7 @@ impl Session {
         Ok(reply)
     }
 
-    // Handles `vRun`: moves to the start of the run, and returns the reply that reports a stop there.
+    // Handles `vRun`: moves to the start of the run, and returns the reply with a stop there.
     fn restart(&mut self, alloc: Global) -> Result<Reply, AllocError>
         ensures { IfOk result (λ reply. (reply ≡ with_body (stop_text stop.Trap))
             × (self.new ≡ record (at_step self.old 0) { last_stop = stop.Trap })) }
@@ -103,7 +103,7 @@ impl Session {
         self.last_stop_reply(alloc)
     }
 
-    // Handles `QStartNoAckMode`: returns `OK`, and no later packet is acknowledged.
+    // Handles `QStartNoAckMode`: returns `OK`. Later packets are not acknowledged.
     fn end_acknowledgements(&mut self, alloc: Global) -> Result<Reply, AllocError>
         ensures { IfOk result (λ reply. (reply ≡ ok_reply) × (self.new ≡ record self.old { acknowledges = false })) }
     {
@@ -121,8 +121,8 @@ impl Session {
         Ok(reply)
     }
 
-    // Handles `vCont;`, `c`, `s`, `bc` and `bs`: records the move, which must be made before another byte is received, and returns an empty
-    // reply.
+    // Handles `vCont;`, `c`, `s`, `bc` and `bs`: records the move, which must be made before the next byte is received, and returns an
+    // empty reply.
     fn record_move(&mut self, alloc: Global, requested: Move) -> Reply
         ensures reply { result ≡ empty_reply }
         ensures next { self.new ≡ record self.old { requested = Some requested } }
@@ -141,14 +141,14 @@ impl Session {
     }
 }
 
-// Returns the reply to a request whose reply is the same in every session; an empty reply for any other request.
+// Returns the reply to a request if it is the same in every session, and a reply with an empty body to any other request.
 fn common_reply(alloc: Global, request: &Request) -> Result<Reply, AllocError>
     ensures { IfOk result (λ reply. reply ≡ common_reply request.now) }
 {
     Reply::with_text(alloc, fixed_reply(request).unwrap_or(""))
 }
 
-// Returns the reply with the requested part of a text.
+// Returns the reply with a part of a text.
 fn part_reply(alloc: Global, text: &[u8], part: Part) -> Result<Reply, AllocError>
     ensures { IfOk result (λ reply. reply ≡ with_body (part_text text.now part)) }
 {

@@ -1,4 +1,4 @@
-//! The reply to a request, before it is framed.
+//! A reply, before it is made into packets.
 
 ghost use Rattle.std.specs.Prelude.{◌≡◌, IfOk, codes};
 
@@ -8,11 +8,11 @@ use std::alloc::{AllocError, Global};
 /// The reply to a request.
 #[derive(Drop)]
 pub struct Reply {
-    /// Console output, which gdb shows. It is sent in packets of its own, before the body.
+    /// Console output, which gdb displays. It is sent in packets of its own, before the body.
     pub printed: Bytes,
-    /// The text about the run's end, which gdb shows after the console output.
+    /// The text that describes the run's end. It is sent like console output, after it.
     pub end_text: Bytes,
-    /// The body, if there is one.
+    /// The body, or `None` if no packet is sent for it.
     pub body: Option<Bytes>,
 }
 
@@ -41,7 +41,7 @@ impl Reply {
         }
     }
 
-    /// Creates a reply with a text that gdb shows, followed by `OK`.
+    /// Creates a reply with a text that gdb displays, followed by `OK`.
     pub(crate) fn with_console(alloc: Global, text: Vec<u8>) -> Result<Reply, AllocError>
         ensures { IfOk result (λ reply. reply ≡ with_console text.items (codes "OK")) }
     {
@@ -67,14 +67,14 @@ impl Reply {
         Reply::with_text(alloc, "OK")
     }
 
-    /// Creates the reply to a request that is refused for this reason.
+    /// Creates the reply that refuses a request for this reason.
     pub(crate) fn error_reply(alloc: Global, refusal: Refusal) -> Result<Reply, AllocError>
         ensures { IfOk result (λ reply. reply ≡ error_reply refusal) }
     {
         Reply::with_text(alloc, refusal_text(refusal))
     }
 
-    /// Creates the reply `OK` if `succeeds` is true, and the refusal otherwise.
+    /// Creates the reply `OK` if the request succeeds, and otherwise the refusal.
     pub(crate) fn ok_if(
         alloc: Global,
         succeeds: bool,

@@ -1,4 +1,4 @@
-//! Seeks: gdb writes one of the run's counts, and the session moves to the first step with that value.
+//! Seeks: gdb writes a value to one of the run's counts, and the session moves to the first step with this value.
 
 ghost use Rattle.std.specs.Prelude.{◌≡◌, IfOk, OnOk};
 ghost use Rattle.rv_session.specs.SessionReplies.{IsStepSeekHandled, IsSeekHandled};
@@ -19,8 +19,8 @@ impl Session {
         Ok(())
     }
 
-    /// Handles `P21=`: moves to the step with this number, and returns `OK`. If the run does not reach this step, returns a refusal and
-    /// does not move.
+    /// Handles `P21=`: moves to the step with this number, and returns `OK`. If the run does not reach it, returns a refusal and does not
+    /// move.
     pub(crate) fn seek_step(&mut self, alloc: Global, step: u32) -> Result<Reply, AllocError>
         ensures { IfOk result (λ reply. IsStepSeekHandled self.old step reply self.new) }
     {

@@ -15,18 +15,18 @@ pub struct Session {
     pub(crate) reader: Reader,
     pub(crate) history: History,
     pub(crate) program: Program,
-    /// The length of the input script in bytes.
+    /// The length of the run's input script in bytes.
     pub(crate) script: usize,
     pub(crate) stops: Stops,
     /// Whether packets are acknowledged.
     pub(crate) acknowledges: bool,
-    /// The number of console bytes that were sent so far.
+    /// How many bytes of the run's console output were sent.
     pub(crate) console_sent: usize,
     /// The stop that was reported last.
     pub(crate) last_stop: Stop,
     /// The packet that was sent last.
     pub(crate) sent: Bytes,
-    /// The requested move that is not made yet.
+    /// The requested move, until it is made.
     pub(crate) requested: Option<Move>,
     pub(crate) is_over: bool,
 }
@@ -70,7 +70,7 @@ impl Session {
         self.history.limit_memory(alloc, megabytes);
     }
 
-    /// Returns the current step: how many steps of the run are completed.
+    /// Returns the current step, which is the number of completed steps.
     pub fn current_step(&self) -> u32
         ensures value { result ≡ self.now.history.step }
         ensures within { result ≤ last_step self.now.history.budget self.now.history.start }
@@ -78,14 +78,14 @@ impl Session {
         self.history.current_step()
     }
 
-    /// Whether a move is requested and not made yet.
+    /// Whether a move was requested and not made yet.
     pub fn is_move_requested(&self) -> bool
         ensures { result ≡ is_some self.now.requested }
     {
         self.requested.is_some()
     }
 
-    /// Whether gdb has ended the session, after which no packet is answered.
+    /// Whether gdb has ended the session. Packets are no longer answered then.
     pub fn is_over(&self) -> bool
         ensures { result ≡ self.now.is_over }
     {

@@ -9,10 +9,10 @@ use rv_gdb_protocol::{Range, Refusal, Sequence, Stoppoint, WatchKind};
 use rv_history::{Bus, Stops, Watch};
 use std::alloc::{AllocError, Global};
 
-/// The maximum number of breakpoints and watchpoints together.
+/// The maximum number of breakpoints and watchpoints in all.
 const MAX_STOPPOINTS: usize = 1024;
 
-/// Returns the stops with this stoppoint, which are unchanged if it is already set, or the reason why it cannot be set.
+/// Returns the stops with this breakpoint or watchpoint added, or unchanged if it is set already. Returns the refusal if it cannot be set.
 pub(crate) fn with_stoppoint(
     alloc: Global,
     stops: &Stops,
@@ -27,7 +27,7 @@ pub(crate) fn with_stoppoint(
     }
 }
 
-/// Returns the stops without this stoppoint; unchanged if it is not set.
+/// Returns the stops without this breakpoint or watchpoint, or unchanged if it is not set.
 pub(crate) fn without_stoppoint(
     alloc: Global,
     stops: &Stops,
@@ -41,7 +41,7 @@ pub(crate) fn without_stoppoint(
     }
 }
 
-// Whether the number of breakpoints and watchpoints has reached its maximum.
+// Whether there are as many breakpoints and watchpoints as allowed.
 fn is_full(stops: &Stops) -> bool
     ensures { result ≡ is_full stops.now }
 {
@@ -52,7 +52,7 @@ fn is_full(stops: &Stops) -> bool
     (breaks + watches) + (reads + accesses) >= MAX_STOPPOINTS
 }
 
-// Returns the stops with a breakpoint at this address, or the reason why it cannot be set.
+// Returns the stops with a breakpoint at this address added, or unchanged if it is set already. Returns the refusal if it cannot be set.
 fn with_break(
     alloc: Global,
     stops: &Stops,
@@ -74,7 +74,8 @@ fn with_break(
     Ok(Ok(next))
 }
 
-// Returns the stops with a watchpoint of this kind for this range, or the reason why it cannot be set.
+// Returns the stops with a watchpoint of this kind for this range added, or unchanged if it is set already. Returns the refusal if it
+// cannot be set.
 fn with_watch(
     alloc: Global,
     stops: &Stops,
@@ -107,7 +108,7 @@ fn with_watch(
     Ok(Ok(with_watches(next, kind, watches)))
 }
 
-// Returns the stops without the breakpoint at this address; unchanged if it is not set.
+// Returns the stops without the breakpoint at this address.
 fn without_break(alloc: Global, stops: &Stops, address: u32) -> Result<Stops, AllocError>
     ensures { IfOk result (λ next. next ≡ without_stoppoint stops.now (stoppoint.Break address)) }
 {
@@ -123,7 +124,7 @@ fn without_break(alloc: Global, stops: &Stops, address: u32) -> Result<Stops, Al
     Ok(next)
 }
 
-// Returns the stops without the watchpoint of this kind for this range; unchanged if it is not set.
+// Returns the stops without the watchpoint of this kind for this range.
 fn without_watch(
     alloc: Global,
     stops: &Stops,
@@ -152,7 +153,7 @@ fn watches_of(stops: &Stops, kind: WatchKind) -> &[Watch]
     }
 }
 
-// Returns the stops with `watches` as the watchpoints of this kind.
+// Returns the stops with the watchpoints of this kind replaced.
 fn with_watches(mut stops: Stops, kind: WatchKind, watches: Vec<Watch>) -> Stops
     ensures { result ≡ with_watches stops kind watches.items }
 {

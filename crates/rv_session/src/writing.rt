@@ -1,4 +1,4 @@
-//! Writes, which are accepted if they change nothing.
+//! Writes to registers and memory. They are accepted only if they change nothing, except for writes to the run's counts, which are seeks.
 
 ghost use Rattle.std.specs.Prelude.{◌≡◌, ◌&&◌, IfOk, nat_lt};
 ghost use Rattle.std.specs.FinMap as fin;
@@ -21,7 +21,7 @@ use std::alloc::{AllocError, Global};
 const END_OF_ADDRESSES: u64 = 0x1_0000_0000;
 
 impl Session {
-    /// Handles `G`: returns `OK` if the write would change no register, and otherwise a refusal.
+    /// Handles `G`: returns `OK` if the registers have these values already, and otherwise a refusal.
     pub(crate) fn write_registers(&self, alloc: Global, bytes: &[u8]) -> Result<Reply, AllocError>
         ensures { IfOk result (λ reply. reply
             ≡ ok_if (bytes_eq (current_registers self.now) (encode_lower bytes.now)) refusal.WouldChange) }
@@ -35,8 +35,8 @@ impl Session {
         Reply::ok_if(alloc, is_unchanged, Refusal::WouldChange)
     }
 
-    /// Handles `P`: a write to a register of the hart is granted only if the value does not change; a write to a count of the run moves to
-    /// the first step at which the count has this value.
+    /// Handles `P`. A write to a register of the hart is accepted only if the register has this value already. A write to a count of the
+    /// run moves to the first step at which the count has this value.
     pub(crate) fn write_register(
         &mut self,
         alloc: Global,
@@ -56,7 +56,7 @@ impl Session {
         }
     }
 
-    /// Handles `M` and `X`: returns `OK` if the write would change no byte of memory, and otherwise a refusal.
+    /// Handles `M` and `X`: returns `OK` if memory has these bytes already, and otherwise a refusal.
     pub(crate) fn write_memory(
         &self,
         alloc: Global,
@@ -71,7 +71,7 @@ impl Session {
     }
 }
 
-// Whether memory has these bytes at `address` and the following addresses, none of which is after the last address.
+// Whether memory has these bytes from `address` on. False if they extend past the end of the address space.
 fn has_bytes_at(bus: &Bus, address: u32, bytes: &[u8]) -> bool
     ensures { result ≡ has_bytes_at bus.now address bytes.now }
 {
@@ -83,14 +83,14 @@ fn has_bytes_at(bus: &Bus, address: u32, bytes: &[u8]) -> bool
     true
 }
 
-// Whether memory has this byte at `address`; false if the address is after the last one.
+// Whether memory has this byte at `address`. False if the address is past the end of the address space.
 fn has_byte_at(bus: &Bus, address: u64, byte: u8) -> bool
     ensures { result ≡ (nat_lt address end_of_addresses && is_byte (fin.get bus.now.memory address) byte) }
 {
     address < END_OF_ADDRESSES && is_byte(bus.byte(address as u32), byte)
 }
 
-// Whether `found` has a value, and the value is `byte`.
+// Whether `found` is this byte.
 fn is_byte(found: Option<u8>, byte: u8) -> bool
     ensures { result ≡ is_byte found byte }
 {

@@ -1,4 +1,4 @@
-//! Requests and responses, by the lines of a table.
+//! Requests and replies, by the lines of a table.
 
 ghost use Rattle.std.specs.Prelude.{◌≡◌, OnOk, false, is_some};
 ghost use Rattle.std.specs.Coded.{Coded-set};
@@ -14,12 +14,12 @@ use samples::{cell_of, check_equal, check_line_count, numbers};
 use std::alloc::{AllocError, Global};
 use std::test::Fail;
 
-// In this program x5 is 80000100, and x6 counts down from 3: the store at 8000000c is in steps 3, 6 and 9, with the values 3, 2 and 1. The
-// exit call is step 13, which does not complete.
+// In this program x5 is 80000100, and x6 counts down from 3. The store at 8000000c is executed in steps 3, 6 and 9, and stores 3, 2 and 1.
+// The exit call is step 13, which does not complete.
 const LOOP: &str = "00000297 10028293 00300313 0062a023 fff30313 fe031ce3 X";
 
-// The bodies of requests and their responses, in a session without acknowledgements that is at the start. The console input is `hi`. label
-// | code | budget | dialogue
+// The bodies of requests and of their replies, in a new session without acknowledgements. The console input is `hi`. label | code | budget
+// | dialogue
 const ANSWERS: &str = "\
 what the stub can do | LOOP | 100 | qSupported:xmlRegisters=i386 > PacketSize=4000;QStartNoAckMode+;ReverseStep+;ReverseContinue+;qXfer:features:read+;qXfer:exec-file:read+
 threads | LOOP | 100 | qC > QC1 / qfThreadInfo > m1 / qsThreadInfo > l / Hg1 > OK / qAttached > 0
@@ -63,7 +63,7 @@ a store into nothing | 00602023 | 100 | c > O656e640a & T0b
 a call that there is not | 00000073 | 100 | c > O656e640a & T0c
 ";
 
-// The first packets of LLDB 19, and the responses to them, as recorded.
+// The first packets of LLDB 19 and the replies to them, as recorded.
 const LLDB: &str = "\
 + > nothing
 $QStartNoAckMode#b0 > +$OK#9a
@@ -101,7 +101,7 @@ impl EndText for End {
 
     ghost end_text = { λ _. codes "end\n" };
 
-    // Appends the text that the tests use for the end of a run.
+    // Appends `end` and a line feed.
     fn push_end_text(
         &self,
         _alloc: Global,
@@ -113,7 +113,7 @@ impl EndText for End {
     }
 }
 
-// Never interrupts a move.
+// An interrupt that is never raised.
 #[derive(Drop)]
 struct Never;
 
@@ -122,13 +122,13 @@ impl Interrupt for Never {
 
     ghost was_raised = { λ _. false };
 
-    // Returns false: no move is interrupted.
+    // Returns false: the interrupt is never raised.
     fn is_raised(&mut self) -> bool {
         false
     }
 }
 
-// A session, and what is reported at the end of its run.
+// A session, and the text at the end of its run.
 #[derive(Drop)]
 struct TestSession {
     session: Session,
@@ -137,8 +137,8 @@ struct TestSession {
     ghost unasked: { is_some session.requested ≡ false },
 }
 
-// Appends the bytes that are sent when a byte is received; if the byte completes the request for a move, makes the move and appends the
-// bytes sent for it, too.
+// Receives a byte, and appends the bytes that are sent in reply. If the byte completes a request that runs the job, runs it and appends the
+// bytes that are then sent, too.
 fn send_byte(
     alloc: Global,
     session: &mut Session,
@@ -159,7 +159,7 @@ fn send_byte(
     Ok(())
 }
 
-// Returns as text all that is sent when bytes from a debugger are received.
+// Returns as text all that is sent in reply to these bytes of a debugger.
 fn response_text(
     alloc: Global,
     session: &mut Session,
@@ -177,7 +177,7 @@ fn response_text(
     Ok(String::from_str(alloc, text)?)
 }
 
-// Returns the bus of a run: the code, or the loop if it is `LOOP`, at 80000000 in memory of 4,096 bytes, and the console input `hi`.
+// Returns the bus of a run: the code (`LOOP` is the loop above) at 80000000 in 4,096 bytes of memory, and the console input `hi`.
 fn bus_of(alloc: Global, code: &str) -> Result<Bus, Fail> {
     let memory = Region {
         base: 0x8000_0000,
@@ -195,7 +195,7 @@ fn bus_of(alloc: Global, code: &str) -> Result<Bus, Fail> {
     Ok(bus)
 }
 
-// Returns a new session for the run of this code within a budget, with its end text.
+// Returns a new session for the run of this code within a budget, and the text at the end of the run.
 fn session_of(alloc: Global, code: &str, budget: u32) -> Result<TestSession, Fail> {
     let bus = bus_of(alloc, code)?;
     let copy = bus.try_clone(alloc)?;
@@ -217,8 +217,7 @@ fn session_of(alloc: Global, code: &str, budget: u32) -> Result<TestSession, Fai
     })
 }
 
-// Returns the packets with these bodies, which are separated by ` & `: `empty` stands for a body without bytes, and `nothing` for no
-// packet.
+// Returns the packets with these bodies, which are separated by ` & `: `empty` is an empty body, and `nothing` is no packet.
 fn framed(alloc: Global, bodies: &str) -> Result<Vec<u8>, Fail> {
     let mut out = Vec::new(alloc);
     for body in bodies.split(" & ") {
@@ -240,7 +239,7 @@ fn session_of_line(alloc: Global, line: &str) -> Result<TestSession, Fail> {
     Ok(TestSession { session, end })
 }
 
-// Returns the response to the packet with this body.
+// Returns the reply to the packet with this body.
 fn response_to_body(
     alloc: Global,
     session: &mut Session,
@@ -254,7 +253,7 @@ fn response_to_body(
     response_text(alloc, session, end, packet.as_slice())
 }
 
-// Makes a request of a dialogue, and checks the response.
+// Makes a request of a dialogue, and checks the reply.
 fn check_response(
     alloc: Global,
     session: &mut Session,
@@ -271,7 +270,7 @@ fn check_response(
     check_equal(line, met.as_str(), std::str::from_utf8(wanted.as_slice())?)
 }
 
-// Makes the requests of a line's dialogue in order, and checks the responses.
+// Makes the requests of a line's dialogue in order, and checks the replies.
 fn check_dialogue(alloc: Global, line: &str) -> Result<(), Fail> {
     let talk = session_of_line(alloc, line)?;
     let TestSession { mut session, end } = talk;
@@ -281,7 +280,7 @@ fn check_dialogue(alloc: Global, line: &str) -> Result<(), Fail> {
     Ok(())
 }
 
-// Requests about hand-written runs have the expected responses.
+// Requests about runs of small programs have the expected replies.
 #[test]
 fn requests_have_responses(rt: HostRuntime) -> Result<(), Fail> {
     check_line_count(ANSWERS, 40)?;
@@ -291,7 +290,7 @@ fn requests_have_responses(rt: HostRuntime) -> Result<(), Fail> {
     Ok(())
 }
 
-// Sends the packets of a line of a recording, and checks the response.
+// Sends the packets of a line of a recording, and checks the reply.
 fn check_recording(alloc: Global, session: &mut Session, end: &End, line: &str) -> Result<(), Fail>
     requires { IsReady (start_of end.now.start) session.old }
     ensures { OnOk result (IsReady (start_of end.now.start) session.new) }
@@ -302,7 +301,7 @@ fn check_recording(alloc: Global, session: &mut Session, end: &End, line: &str) 
     check_equal(line, met.as_str(), wanted)
 }
 
-// The packets of a recorded session with LLDB have the recorded responses.
+// The packets of a recorded session with LLDB have the recorded replies.
 #[test]
 fn a_recorded_session_is_replayed(rt: HostRuntime) -> Result<(), Fail> {
     let alloc = rt.alloc();

@@ -1,4 +1,4 @@
-//! Tests of `rv_session`: packets about a hand-written run, and the responses.
+//! Tests of `rv_session`: packets about the run of a small program, and the replies.
 #![tactic(auto)]
 
 #[cfg(test)]

@@ -1,4 +1,5 @@
--- Nodes: paths of functions, each of which called the next. A node stores the number of its parent and its own function.
+-- Nodes of the call tree of a run in progress. A node represents a path of functions, each of which called the next; it stores the number
+-- of its parent and its own function.
 use Rattle.std.specs.Prelude.{◌≡◌, ◌==◌, ◌+◌, ◌<◌, ◌≤◌, ◌&&◌, ℕ, Bool, if◌then◌else◌, List, [], ◌∷◌, ◌++◌, length, slice_index_or}
 use Rattle.std.specs.Str.{bytes_eq}
 use Rattle.rv_count_tables.specs.Trees.{ends_with, one_if, steps_if}
@@ -6,7 +7,7 @@ use Rattle.rv_stacks.specs.declared.node.WalkNode.{WalkNode}
 
 -- ---- the path of a node
 
--- the path of a node: its parent's path, which is in `paths` at the parent's number, followed by the node's own function
+-- the path of the node `n`: its parent's path, which is in `paths` at the parent's number, followed by the node's own function
 abbrev pub path_below : List (List ℕ) → WalkNode → List ℕ
 path_below paths n = slice_index_or paths n.parent [] ++ n.function ∷ []
 
@@ -15,7 +16,7 @@ abbrev pub paths_appended : List (List ℕ) → List WalkNode → List (List ℕ
 paths_appended paths [] = paths
 paths_appended paths (n ∷ ns) = paths_appended (paths ++ path_below paths n ∷ []) ns
 
--- the list of the nodes' paths, indexed by node number; number 0, which is no node, has the empty path
+-- the paths of the nodes, indexed by node number; number 0 is not a node, and has the empty path
 abbrev pub paths_of : List WalkNode → List (List ℕ)
 paths_of nodes = paths_appended ([] ∷ []) nodes
 
@@ -25,26 +26,25 @@ path_of number nodes = slice_index_or (paths_of nodes) number []
 
 -- ---- counts
 
--- the sum of `weight` over these nodes, where `weight` depends on the node's path and the node; `paths` are the paths of the nodes before
--- them
+-- the sum of `weight` over these nodes, where `weight` depends on a node and its path; `paths` are the paths of the nodes before them
 abbrev pub weighted_sum_after : (List ℕ → WalkNode → ℕ) → List (List ℕ) → List WalkNode → ℕ
 weighted_sum_after weight paths [] = 0
 weighted_sum_after weight paths (n ∷ ns) =
     weight (path_below paths n) n + weighted_sum_after weight (paths ++ path_below paths n ∷ []) ns
 
--- the sum of `weight` over all nodes, where `weight` depends on the node's path and the node
+-- the sum of `weight` over all nodes, where `weight` depends on a node and its path
 abbrev pub weighted_sum : (List ℕ → WalkNode → ℕ) → List WalkNode → ℕ
 weighted_sum weight nodes = weighted_sum_after weight ([] ∷ []) nodes
 
--- how often a run entered the path `path`, according to the counts of the nodes
+-- how often a run entered this path, according to the nodes
 abbrev pub calls_at : List ℕ → List WalkNode → ℕ
 calls_at path nodes = weighted_sum (λ p n. if bytes_eq p path then n.calls else 0) nodes
 
--- how many instructions a run executed on the path `path`, according to the counts of the nodes
+-- how many instructions a run executed in this path, according to the nodes
 abbrev pub steps_at : List ℕ → List WalkNode → ℕ
 steps_at path nodes = weighted_sum (λ p n. if bytes_eq p path then n.steps else 0) nodes
 
--- the number of instructions executed in a function itself: the sum over the nodes whose path ends with it
+-- the own steps of a function: the sum of the steps of the nodes whose paths end in it
 abbrev pub own_steps_of : ℕ → List WalkNode → ℕ
 own_steps_of function nodes = weighted_sum (λ p n. steps_if (n.function == function) n.steps) nodes
 
@@ -69,8 +69,8 @@ pub record IsChild (parent function number : ℕ) (nodes : List WalkNode) : Type
   pub has_parent : (k : ℕ) (d : WalkNode) → k + 1 ≡ number → (slice_index_or nodes k d).parent ≡ parent
   pub own : (k : ℕ) (d : WalkNode) → k + 1 ≡ number → (slice_index_or nodes k d).function ≡ function
 
--- the nodes `new` are the nodes `old`, to which a child of the node `parent` for this function may have been added; `number` is this child,
--- and the paths and counts of `old` are unchanged
+-- `number` is the child of the node `parent` for this function in `new`, which is `old` with this child added unless `old` has it; the
+-- paths and counts of `old` are unchanged
 pub record HasChild (parent function : ℕ) (old : List WalkNode) (number : ℕ) (new : List WalkNode) : Type 0 where
   pub some : 0 < number
   pub within : number < length new + 1
@@ -90,7 +90,7 @@ pub record KeepsPaths (old new : List WalkNode) : Type 0 where
   pub long : length new ≡ length old
   pub paths : paths_of new ≡ paths_of old
 
--- the nodes `new` are the nodes `old` with one more entry into the node `number`; nothing else has changed
+-- `new` is `old` with one more entry into the node `number`, and no other change
 pub record EntersOnce (number : ℕ) (old new : List WalkNode) : Type 0 where
   pub kept : KeepsPaths old new
   pub calls : (path : List ℕ) → calls_at path new ≡ calls_at path old + one_if (bytes_eq (path_of number old) path)
@@ -99,11 +99,11 @@ pub record EntersOnce (number : ℕ) (old new : List WalkNode) : Type 0 where
   pub all_calls : all_calls new ≡ all_calls old + 1
   pub all_steps : all_steps new ≡ all_steps old
 
--- `n` if the Boolean is true, and 0 if it is false
+-- `n` if the condition is true, else 0
 abbrev pub times_if : ℕ → Bool → ℕ
 times_if n test = if test then n else 0
 
--- the nodes `new` are the nodes `old` with `n` more instructions in the node `number`; nothing else has changed
+-- `new` is `old` with `n` more instructions in the node `number`, and no other change
 pub record StepsMore (n number : ℕ) (old new : List WalkNode) : Type 0 where
   pub kept : KeepsPaths old new
   pub calls : (path : List ℕ) → calls_at path new ≡ calls_at path old

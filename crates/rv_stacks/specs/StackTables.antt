@@ -1,5 +1,6 @@
--- The table of a plan's jobs with their call trees: in addition to the counts of instructions, how often their runs entered each call path
--- of their images, and how many instructions they executed there. The table of call trees alone has no counts and no runs.
+-- The table of a plan's jobs with their call trees: in addition to the counts of instructions, it says how often their runs entered each
+-- call path of an image, and how many instructions they executed there. It is defined as the sum of the table of counts and of a table that
+-- has only call trees.
 use Rattle.std.specs.Prelude.{◌≡◌, ◌==◌, ◌+◌, ◌%◌, ◌^◌, ◌<◌, ◌⊎◌, ℕ, true, List, [], ◌∷◌, Option, Some, None, codes, if◌then◌else◌}
 use Rattle.std.specs.Prelude.{length, map, slice_index_or, take, Ok}
 use Rattle.std.specs.List.{AllByRecursion, filter, sum_by}
@@ -31,28 +32,26 @@ use Rattle.rv_counting.specs.Trace.{image_bytes}
 
 -- ---- names
 
--- the name of the symbol, or `?` if no symbol is given
+-- the name of the symbol, or `?` if there is none
 abbrev pub symbol_name : Option (List ℕ × ℕ) → List ℕ
 symbol_name None = codes "?"
 symbol_name (Some symbol) = symbol.0
 
--- the name of the function `f` of a file: the name of the symbol at its address, or `?` if there is none or `f` is the last address
+-- the name of the function `f`: the name of the symbol at its address, or `?` if there is none or `f` is the last address
 abbrev pub name_in_file : Image → List ℕ → ℕ → List ℕ
 name_in_file image file f = if f == run.last_address then codes "?" else symbol_name (symbol_at image file f)
 
--- the printable name of the function `f` of a file: the name of the symbol at its address, or `?`
+-- the printable name of the function `f`: the name of the symbol at its address, or `?`
 unfoldable pub name_of_function : Image → List ℕ → ℕ → List ℕ
 name_of_function image file f = printable_text (name_in_file image file f)
 
--- `names` has each function with which the path of a node of `nodes` ends, once, and with the name that the function `name` returns; it has
--- no other function
+-- `names` has exactly the functions in which the paths of `nodes` end, each once, with the names that `name` returns
 pub record AreNamesBy (name : ℕ → List ℕ) (nodes : List CallNode) (names : List FunctionName) : Type 0 where
   pub sound : AreValidNames names
   pub names_of_nodes : AreNamesOf nodes names
   pub each : (f : ℕ) → has_name (name_of f names) ≡ true → name_of f names ≡ Some (name f)
 
--- `names` has the names of the functions of `nodes`; all these functions are below `next`, and unless `next` is 0, `next` - 1 is one of
--- them
+-- `names` has the names of the functions of `nodes`; all of these are below `next`, and `next` is one more than the last of them, or 0
 pub record AreNamedUpTo (name : ℕ → List ℕ) (nodes : List CallNode) (next : ℕ) (names : List FunctionName) : Type 0 where
   pub named : AreNamesBy name nodes names
   pub below : AllByRecursion (λ n. n.function < next) names
@@ -71,8 +70,8 @@ table_of_run path file addresses functions nodes = record {
   runs = 1;
 }
 
--- `t` is the table of one run with these counts and nodes, of the image with this path and these bytes; the function `name` returns the
--- names of its functions
+-- `t` is the table of one run of the image with this path and these bytes, which has these counts and nodes; `name` returns the names of
+-- its functions
 pub record IsTableOfRun (name : ℕ → List ℕ) (path file : List ℕ) (addresses : List AddressCounts) (nodes : List CallNode) (t : CountTable)
     : Type 0 where
   pub functions : List FunctionName
@@ -82,12 +81,12 @@ pub record IsTableOfRun (name : ℕ → List ℕ) (path file : List ℕ) (addres
 
 -- ---- one job
 
--- the function that an address belongs to, given the parsed image and its bytes; 0 if either is missing
+-- the function that an address belongs to, according to the symbols of this image and its file; 0 if either is missing
 abbrev pub function_in : Option Image → Option (List ℕ) → ℕ → ℕ
 function_in (Some image) (Some file) address = run.function_at image file address
 function_in _ _ address = 0
 
--- the printable name of the function `f`, given the parsed image and its bytes; empty if either is missing
+-- the printable name of the function `f`, according to the symbols of this image and its file; empty if either is missing
 abbrev pub name_in_image : Option Image → Option (List ℕ) → ℕ → List ℕ
 name_in_image (Some image) (Some file) f = name_of_function image file f
 name_in_image _ _ f = []
@@ -100,29 +99,28 @@ function_of_job answers job = function_in (image_in answers job) (image_bytes an
 abbrev pub name_of_job : List PathResult → Job → ℕ → List ℕ
 name_of_job answers job = name_in_image (image_in answers job) (image_bytes answers job)
 
--- how often a run of at most `n` steps from this state enters a path, including the entry into its first function; 0 without a state
+-- how often a run of at most `n` steps from this state enters a path, including the entry into its first function; 0 if there is no state
 abbrev pub calls_from : (ℕ → ℕ) → List ℕ → ℕ → Option State → ℕ
 calls_from function path n None = 0
 calls_from function path n (Some s) =
     address_if (bytes_eq (function s.pc ∷ []) path) + run.calls_in function path n [] s
 
--- how many instructions a run of at most `n` steps from this state executes on a path; 0 without a state
+-- how many instructions a run of at most `n` steps from this state executes in a path; 0 if there is no state
 abbrev pub steps_from : (ℕ → ℕ) → List ℕ → ℕ → Option State → ℕ
 steps_from function path n None = 0
 steps_from function path n (Some s) = run.steps_in function path n [] s
 
--- how often a job's run enters a path; 0 if its image does not have this digest
+-- how often a job's run enters a path; 0 if the job is refused or its image does not have this digest
 abbrev pub calls_by_job : List PathResult → List ℕ → List ℕ → Job → ℕ
 calls_by_job answers digest path job =
     calls_from (function_of_job answers job) path job.budget (start_state_of_image answers digest job)
 
--- how many instructions a job's run executes on a path; 0 if its image does not have this digest
+-- how many instructions a job's run executes in a path; 0 if the job is refused or its image does not have this digest
 abbrev pub steps_by_job : List PathResult → List ℕ → List ℕ → Job → ℕ
 steps_by_job answers digest path job =
     steps_from (function_of_job answers job) path job.budget (start_state_of_image answers digest job)
 
--- if the job's run enters a path that ends with `f`, the table gives `f` in the image with this digest the name that it has in the job's
--- image
+-- if the run of this job, in the image with this digest, enters a path that ends in `f`, the table names `f` as the job's image does
 abbrev pub IsNamedBy : List PathResult → CountTable → List ℕ → ℕ → Job → Type 0
 IsNamedBy answers t digest f job = (path : List ℕ) → ends_with f path ≡ true
     → 0 < calls_by_job answers digest path job → name_in digest f t.images ≡ Some (name_of_job answers job f)
@@ -133,7 +131,7 @@ RunsWithinABudget answers job = (s : State) → start_state_in answers job ≡ O
 
 -- ---- some jobs
 
--- `t` is the table of only the call trees of the jobs, without counts and runs: each of its numbers is the sum over the jobs
+-- `t` is the table of the jobs' call trees alone, without counts and runs: each of its numbers is the sum over the jobs
 pub record AreStacksOfJobs (answers : List PathResult) (jobs : List Job) (t : CountTable) : Type 0 where
   pub table : IsValidTable t
   pub executed : (digest : List ℕ) (address : ℕ) → executed_in digest address t.images ≡ 0
@@ -147,13 +145,14 @@ pub record AreStacksOfJobs (answers : List PathResult) (jobs : List Job) (t : Co
   pub runs : t.runs ≡ 0
   pub budgets : AllByRecursion (RunsWithinABudget answers) jobs
 
--- `t` is the table of only the call trees of a plan's jobs at these indices
+-- `t` is the table of the call trees alone, of a plan's jobs at these indices
 abbrev pub AreStacksOfJobsAt : PlanView → List ℕ → CountTable → Type 0
 AreStacksOfJobsAt plan indices t = AreStacksOfJobs plan.results (jobs_at plan indices) t
 
 -- ---- counts and call trees
 
--- `t` is the table of the counts and the call trees of a plan's jobs at these indices
+-- `t` is the table of counts and call trees of a plan's jobs at these indices: the sum of their table of counts and their table of call
+-- trees
 pub record IsTableWithStacks (plan : PlanView) (indices : List ℕ) (t : CountTable) : Type 0 where
   pub counts : CountTable
   pub stacks : CountTable
@@ -161,7 +160,7 @@ pub record IsTableWithStacks (plan : PlanView) (indices : List ℕ) (t : CountTa
   pub stacked : AreStacksOfJobsAt plan indices stacks
   pub sum : IsSumOfTables counts stacks t
 
--- the table of the jobs at the first `count` indices and the table of the job at the next index cannot be added, because of this error
+-- the table of the jobs at the first `count` indices cannot be added to the table of the next job, because of this error
 pub record IsNextTableNotAdded (plan : PlanView) (indices : List ℕ) (error : SumError) : Type 0 where
   pub count : ℕ
   pub within : count < length indices
@@ -193,7 +192,7 @@ indices_of_shard shards indices number = filter (λ index. index % shards == num
 
 -- ---- tables without call trees
 
--- the counts of an image without its nodes and its function names
+-- the image's counts without its call tree and function names
 abbrev pub image_without_stacks : ImageCounts → ImageCounts
 image_without_stacks i = record {
   digest = i.digest;
@@ -203,6 +202,6 @@ image_without_stacks i = record {
   nodes = [];
 }
 
--- a table without its nodes and its function names
+-- the table without call trees and function names
 abbrev pub without_stacks : CountTable → CountTable
 without_stacks t = record { images = map image_without_stacks t.images; runs = t.runs }

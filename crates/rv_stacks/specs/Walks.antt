@@ -1,4 +1,4 @@
--- A walk from node to node that follows calls, jumps and returns, and its nodes in preorder.
+-- A walk through a call tree, which follows calls, jumps and returns, and its nodes in preorder.
 use Rattle.std.specs.Prelude.{◌≡◌, ◌+◌, ◌<◌, ◌≤◌, ℕ, List, [], length, take, slice_index_or}
 use Rattle.std.specs.Str.{bytes_eq}
 use Rattle.rv_count_tables.specs.declared_call_node.CallNode.{CallNode}
@@ -9,7 +9,7 @@ use Rattle.rv_stacks.specs.declared.node.WalkNode.{WalkNode}
 use Rattle.rv_stacks.specs.declared.walk.Walk.{Walk}
 use Rattle.rv_stacks.specs.Nodes.{all_calls, all_steps, calls_at, own_steps_of, path_of, steps_at, times_if}
 
--- `trail` has, for each prefix of the path from the empty one to the whole path, the number of the node with this path
+-- `trail` has the number of the node of each prefix of the path, from the empty one to the whole path
 pub record IsTrail (nodes : List WalkNode) (path trail : List ℕ) : Type 0 where
   pub long : length trail ≡ length path + 1
   pub within : (k d : ℕ) → k < length trail → slice_index_or trail k d < length nodes + 1
@@ -19,7 +19,7 @@ pub record IsTrail (nodes : List WalkNode) (path trail : List ℕ) : Type 0 wher
 pub record IsWalk (w : Walk) : Type 0 where
   pub trail : IsTrail w.nodes.items w.path.items w.trail.items
 
--- the walk `new` is `old` after it entered the node with the path `entered_path` by a call or a jump
+-- the walk went from `old` to `new` by entering the node with the path `entered_path`
 pub record Enters (entered_path : List ℕ) (old new : Walk) : Type 0 where
   pub walk : IsWalk new
   pub path : new.path.items ≡ entered_path
@@ -30,7 +30,7 @@ pub record Enters (entered_path : List ℕ) (old new : Walk) : Type 0 where
   pub all_calls : all_calls new.nodes.items ≡ all_calls old.nodes.items + 1
   pub all_steps : all_steps new.nodes.items ≡ all_steps old.nodes.items
 
--- the walk `new` is `old` after it returned to the node whose path is the first `depth` functions of the path of `old`
+-- the walk went from `old` to `new` by returning to the node whose path is the first `depth` functions of its path
 pub record ReturnsTo (depth : ℕ) (old new : Walk) : Type 0 where
   pub walk : IsWalk new
   pub path : new.path.items ≡ take depth old.path.items
@@ -49,7 +49,7 @@ pub record CountsSteps (n : ℕ) (old new : Walk) : Type 0 where
 
 -- ---- nodes in preorder
 
--- the nodes `ss`, which are in preorder, have the counts of `nodes`: for each path, for each function, and in total
+-- `ss` are in preorder and have the counts of `nodes`: for each path, for each function, and in total
 pub record ArePreorderOf (nodes : List WalkNode) (ss : List CallNode) : Type 0 where
   pub tree : IsTree ss
   pub some : HasCalls ss
@@ -58,7 +58,7 @@ pub record ArePreorderOf (nodes : List WalkNode) (ss : List CallNode) : Type 0 w
   pub own : (f : ℕ) → preorder.own_steps_of f ss ≡ own_steps_of f nodes
   pub all_steps : preorder.all_steps ss ≡ all_steps nodes
 
--- the node `number` is a child of the node `parent` that a run entered, and its function is not below `from`
+-- the node `number` is a child of the node `parent` that has entries, and its function is not below `from`
 pub record IsNextChild (parent from number : ℕ) (nodes : List WalkNode) : Type 0 where
   pub after_parent : parent < number
   pub within : number < length nodes + 1
@@ -66,8 +66,8 @@ pub record IsNextChild (parent from number : ℕ) (nodes : List WalkNode) : Type
   pub rising : (k : ℕ) (d : WalkNode) → k + 1 ≡ number → from ≤ (slice_index_or nodes k d).function
   pub some : (k : ℕ) (d : WalkNode) → k + 1 ≡ number → 0 < (slice_index_or nodes k d).calls
 
--- the preorder nodes of `builder` form a tree, and its path is a prefix of the path of the last of them; if it is shorter, the next
--- function of the longer path is below `from`
+-- the preorder nodes of `builder` form a tree, and its path is the path of the last of them or a prefix of that; in the second case, the
+-- next function of that path is below `from`
 pub record IsPreorderBuilder (nodes : List WalkNode) (builder : PreorderBuilder) : Type 0 where
   pub tree : IsTree builder.nodes.items
   pub some : HasCalls builder.nodes.items
@@ -77,8 +77,8 @@ pub record IsPreorderBuilder (nodes : List WalkNode) (builder : PreorderBuilder)
   pub rising : (d : ℕ) → length builder.path.items < length (last_path [] builder.nodes.items)
       → slice_index_or (last_path [] builder.nodes.items) (length builder.path.items) d < builder.from
 
--- counts were moved from the nodes to the preorder nodes: the counts of `new` and of the nodes `after` together are the counts of `old` and
--- of the nodes `before`
+-- counts were moved to the preorder nodes: the counts of `new` and of the nodes `after` together equal those of `old` and of the nodes
+-- `before`
 pub record MovesCounts (before : List WalkNode) (old : PreorderBuilder) (after : List WalkNode) (new : PreorderBuilder) : Type 0 where
   pub is_preorder : IsPreorderBuilder after new
   pub calls : (path : List ℕ) → preorder.calls_at path new.nodes.items + calls_at path after
@@ -88,7 +88,7 @@ pub record MovesCounts (before : List WalkNode) (old : PreorderBuilder) (after :
   pub own : (f : ℕ) → preorder.own_steps_of f new.nodes.items + own_steps_of f after ≡ preorder.own_steps_of f old.nodes.items + own_steps_of f before
   pub all_steps : preorder.all_steps new.nodes.items + all_steps after ≡ preorder.all_steps old.nodes.items + all_steps before
 
--- no counts were moved: `new` has the preorder nodes of `old`, and its path and its trail agree with the nodes
+-- the conversion went back to the parent node: `new` has the preorder nodes of `old`, and its path and trail agree with the nodes
 pub record ReturnsToParent (walked : List WalkNode) (old new : PreorderBuilder) : Type 0 where
   pub is_preorder : IsPreorderBuilder walked new
   pub nodes : new.nodes.items ≡ old.nodes.items

@@ -24,7 +24,7 @@ pub enum CountError {
 impl From<RunError> for CountError {
     ghost from_gives = { λ error given. given ≡ Run error };
 
-    // Returns the error of a run that failed.
+    // Returns the error for a failed run.
     fn from(error: RunError) -> CountError {
         CountError::Run(error)
     }
@@ -33,15 +33,15 @@ impl From<RunError> for CountError {
 impl From<SumError> for CountError {
     ghost from_gives = { λ error given. given ≡ Sum error };
 
-    // Returns the error of tables that have no sum.
+    // Returns the error for tables that have no sum.
     fn from(error: SumError) -> CountError {
         CountError::Sum(error)
     }
 }
 
-/// Returns the table of the counts and call trees of a batch's jobs, which is the same for every crew. Returns an error if the run fails, or
-/// if two files with equal digests give a function different names; with so few jobs no number reaches 2^64. Each job is run once more, by
-/// the threads of the crew. Needs memory for the tables that wait to be added, and for two sums.
+/// Runs each job of a batch once more, on the threads of the crew, and returns the table of their counts and call trees, which does not
+/// depend on the crew. Returns an error if the run fails, or if a function has different names in two files with equal digests; with so few
+/// jobs no number reaches 2^64. Needs memory for the tables that wait to be added, and for two sums.
 pub fn count_batch_with_stacks<R: Threads + Wait + Sync>(
     crew: &Crew<'_, R>,
     batch: &Batch<'_>,

@@ -8,28 +8,28 @@ use crate::node::WalkNode;
 use std::alloc::{AllocError, Global};
 use std::collections::BTreeMap;
 
-/// The maximum number of nodes in a chain, which a lookup walks through.
+/// The maximum number of children in a node's chain, through which a lookup walks.
 const MAX_CHAIN: u32 = 8;
 
-/// The children of each node: a chain of the first ones, and an index of the others.
+/// The children of each node: the first ones in a chain, the others in an index.
 ///
-/// It has no contract, because each node number found here is checked against the nodes.
+/// No contract says that the lookups find what was added, because each number that they find is checked against the nodes.
 #[derive(Drop)]
 pub struct Children {
-    /// The links of each node, by number from 0 on.
+    /// The links of each node, indexed by its number; number 0 is the root, which is not a node.
     links: Vec<Links>,
     /// The numbers of nodes outside the chains, by parent and function.
     others: BTreeMap<u64, usize>,
 }
 
-/// The numbers of the nodes that a node is linked with, or 0 for none.
+/// The numbers of the nodes to which a node is linked; 0 means none.
 #[derive(Clone, Copy)]
 struct Links {
     /// The first child in the node's chain.
     first_child: usize,
     /// The next node in the chain that the node belongs to.
     next_sibling: usize,
-    /// The number of children in the node's chain.
+    /// The number of children in the node's own chain.
     count: u32,
 }
 
@@ -41,7 +41,7 @@ const UNLINKED: Links = Links {
 };
 
 impl Children {
-    /// Creates an empty lookup structure.
+    /// Creates a lookup structure without nodes.
     pub(crate) fn new(alloc: Global) -> Result<Children, AllocError> {
         let mut links = Vec::new(alloc);
         links.push(UNLINKED)?;
@@ -100,8 +100,8 @@ impl Children {
         }
     }
 
-    /// Returns the number of the child of the node `parent` that a run entered and whose function is the lowest that is not below `from`;
-    /// `None` if there is none.
+    /// Returns the number of the next child of the node `parent`: the child with the lowest function that is not below `from`, among those
+    /// that still have entries. `None` if there is none.
     pub(crate) fn next_child(&self, nodes: &[WalkNode], parent: usize, from: u64) -> Option<usize>
         ensures { IfSome result (λ number. IsNextChild parent from number nodes.now) }
     {
@@ -117,8 +117,8 @@ impl Children {
         next
     }
 
-    // Returns the number of the next child of the node `parent` that is not in a chain and whose function is not below `from`; `None` if
-    // there is none.
+    // Returns the number of the next child of the node `parent` outside its chain, by function and not below `from`, if that child still
+    // has entries; else `None`.
     fn next_unchained_child(&self, nodes: &[WalkNode], parent: usize, from: u64) -> Option<usize>
         ensures { IfSome result (λ number. IsNextChild parent from number nodes.now) }
     {
@@ -136,7 +136,7 @@ impl Children {
     }
 }
 
-// Whether the node `number` is the child of the node `parent` for this function; a child has a greater number than its parent.
+// Whether the node `number` is the child of the node `parent` for this function. The number of a child is greater than its parent's.
 fn is_child(nodes: &[WalkNode], parent: usize, function: u32, number: usize) -> bool
     ensures { result ≡ true → IsChild parent function number nodes.now }
 {
@@ -147,7 +147,7 @@ fn is_child(nodes: &[WalkNode], parent: usize, function: u32, number: usize) -> 
     node.parent == parent && node.function == function
 }
 
-// Whether the node `number` is a child of the node `parent` that a run entered, and its function is not below `from`.
+// Whether the node `number` is a child of the node `parent` that still has entries, and its function is not below `from`.
 fn is_next_child(nodes: &[WalkNode], parent: usize, from: u64, number: usize) -> bool
     ensures { result ≡ true → IsNextChild parent from number nodes.now }
 {
@@ -171,7 +171,7 @@ fn function_of(nodes: &[WalkNode], number: usize) -> Option<u32> {
     Some(nodes.get(number.checked_sub(1)?)?.function)
 }
 
-// Returns the key of a node that is not in a chain. Keys are ordered by parent, then by function.
+// Returns the index key of a child outside a chain. Keys are ordered by parent, and then by function.
 fn key_of(parent: usize, function: u64) -> u64
     ensures { result ≡ ((parent * 2 ^ 32) % 2 ^ 64 + function) % 2 ^ 64 }
 {

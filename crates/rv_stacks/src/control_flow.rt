@@ -1,4 +1,4 @@
-//! How a walk follows control from function to function.
+//! How the current call path changes when control passes from one function to another.
 
 ghost use Rattle.std.specs.Prelude.{◌≡◌, ◌^◌, ◌<◌, OnOk, length};
 ghost use Rattle.rv_calls.specs.Stack.{after_transfer};
@@ -13,7 +13,7 @@ use rv_calls::{Frame, Transfer, apply_transfer, remaining_frames};
 use rv_counting::CodeSymbols;
 use std::alloc::AllocError;
 
-/// Moves the walk as a transfer of control says, and applies the transfer to the frames.
+/// Applies a transfer of control to the frames, and moves the walk to the call path after it.
 pub(crate) fn follow_transfer(
     symbols: &CodeSymbols<'_>,
     cache: &mut Vec<CachedFunction>,
@@ -42,8 +42,8 @@ pub(crate) fn follow_transfer(
     }
 }
 
-// Continues the walk in `function`, which replaces the function after the first `depth` functions of the path. This counts as an entry only
-// if the two differ.
+// Makes `function` the last function of the path, after its first `depth` functions. This counts as an entry only if another function was
+// at that position.
 fn continue_in(walk: &mut Walk, depth: usize, function: u32) -> Result<(), AllocError>
     requires valid { IsWalk walk.old }
     requires depth { depth < length walk.old.path.items }

@@ -1,4 +1,4 @@
-//! The functions of instruction addresses.
+//! The functions that code addresses belong to.
 
 ghost use Rattle.std.specs.Prelude.{◌≡◌, ◌+◌, ◌<◌, ◌≤◌, ℕ, IfOk, length};
 ghost use Rattle.rv_counting.specs.Blocks.{address_at};
@@ -10,10 +10,10 @@ use rv_count_tables::AddressCounts;
 use rv_counting::{Block, CodeSymbols};
 use std::alloc::{AllocError, Global};
 
-/// The number of cached functions. Addresses that share a slot evict each other.
+/// The number of cache entries. Addresses that share an entry evict each other.
 const CACHE_SIZE: usize = 4096;
 
-/// No instruction can begin at this address, so no function of code can be there.
+/// The last address. No instruction can begin there, so it is never the address of a function.
 pub(crate) const LAST_ADDRESS: u32 = u32::MAX;
 
 /// A cache entry: the function of an address.
@@ -23,7 +23,7 @@ pub struct CachedFunction {
     pub function: u32,
 }
 
-/// Returns a new cache of functions, in which every entry has this address and its function.
+/// Returns a new cache in which every entry is for this address.
 pub(crate) fn new_function_cache(
     alloc: Global,
     symbols: &CodeSymbols<'_>,
@@ -37,7 +37,7 @@ pub(crate) fn new_function_cache(
     Ok(cache)
 }
 
-/// Returns the function that a code address belongs to, from the cache or by a search, which is then cached.
+/// Returns the function that a code address belongs to: from the cache, or else by a symbol lookup, whose result is then cached.
 pub(crate) fn look_up_function(
     cache: &mut Vec<CachedFunction>,
     symbols: &CodeSymbols<'_>,
@@ -57,8 +57,8 @@ pub(crate) fn look_up_function(
     function
 }
 
-/// Returns the number of leading instructions of a block that belong to the function of the first one, and after which the block continues
-/// with an instruction of this function.
+/// Returns how many instructions from the start of a block can be executed without leaving the function of the first one: these
+/// instructions and the next one belong to this function. 0 if there are none.
 pub(crate) fn steps_in_function(
     cache: &mut Vec<CachedFunction>,
     symbols: &CodeSymbols<'_>,
@@ -86,8 +86,8 @@ pub(crate) fn steps_in_function(
     block.steps - 1
 }
 
-/// Returns the function that a code address belongs to: the start of its symbol. Without a symbol it is 0, or the last address if there is
-/// a symbol at 0. Takes one or two searches of the symbols.
+/// Returns the function that a code address belongs to: the start of its symbol. Code without a symbol has the function 0, or `u32::MAX` if
+/// there is a symbol at 0. Takes one or two symbol lookups.
 #[tactic(auto, unfolding(crate::specs::Stacks::function_at))]
 pub fn function_of(symbols: &CodeSymbols<'_>, address: u32) -> u32
     ensures { result ≡ function_at symbols.now.image.now symbols.now.bytes.now address }
@@ -98,7 +98,7 @@ pub fn function_of(symbols: &CodeSymbols<'_>, address: u32) -> u32
     }
 }
 
-// Returns the number that stands for code without a symbol: 0, or the last address if there is a symbol at 0.
+// Returns the number that represents code without a symbol: 0, or the last address if there is a symbol at 0.
 fn no_symbol_number(symbols: &CodeSymbols<'_>) -> u32
     ensures { result ≡ no_symbol_number (symbol_at symbols.now.image.now symbols.now.bytes.now 0) }
 {

@@ -14,8 +14,8 @@ use rv_count_tables::{Addresses, CallNodes};
 use rv_counting::{CodeSymbols, JobImage};
 use std::alloc::{AllocError, Global};
 
-/// Returns the counts of a job's run within its budget, and its call tree with the functions that the symbols define; `None` if the job is
-/// refused. The job is run once more. The counts fit into a table.
+/// Runs a job once more within its budget, and returns its counts and its call tree; `None` if the job is refused. Functions are delimited
+/// by the symbols. The counts are valid in a table.
 pub fn count_job_with_stacks(
     alloc: Global,
     job: &JobImage<'_>,

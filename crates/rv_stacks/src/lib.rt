@@ -1,10 +1,10 @@
 //! The call tree of a run: on which path of functions, from the root to the function of the pc, each instruction was executed, and how
 //! often a run entered each path.
 //!
-//! [`count_with_stacks`] runs a machine within a budget and returns its counts and its call-tree nodes. [`count_job_with_stacks`] does so
-//! for a job of a plan, and [`count_batch_with_stacks`] returns the table of counts of a batch's jobs, with their call trees. The calls
-//! that have not returned are those of `rv_calls`: a node's path consists of the functions in which they were made and the function of the
-//! pc.
+//! [`count_with_stacks`] runs a machine within a budget and returns its counts and its call tree. [`count_job_with_stacks`] does so for a
+//! job of a plan, and [`count_batch_with_stacks`] returns the table of counts of a batch's jobs, with their call trees. `rv_calls` defines
+//! which calls have not returned: a call path consists of the functions in which these calls were made, outermost first, and the function
+//! of the pc.
 #![tactic(auto)]
 
 mod batch;
@@ -38,7 +38,7 @@ pub use run::count_with_stacks;
 pub use stacks::Stacks;
 pub use walk::Walk;
 
-// From the crates below: what this interface names, and what its callers need with it.
+// Re-exports from lower crates: the types in this interface, and what its callers need with them.
 pub use rv_counting::{
     Bus, CodeSymbols, Isa, Machine, Map, Misaligned, Region, RunError, count_batch, read_image,
 };

@@ -15,8 +15,8 @@ use rv_count_tables::{CallNode, FunctionName, FunctionNames, Text};
 use rv_counting::{CodeSymbols, shown_text};
 use std::alloc::{AllocError, Global};
 
-/// Returns the names of the functions with which the paths of the nodes end, each once. Needs a symbol lookup for each function, a sort of
-/// the nodes, and memory for a copy of them.
+/// Returns the names of the functions in which the paths of the nodes end, each function once. Needs a symbol lookup for each function, a
+/// sort of the nodes, and memory for a copy of them.
 pub(crate) fn names_of_functions(
     alloc: Global,
     symbols: &CodeSymbols<'_>,
@@ -61,7 +61,7 @@ fn names_in_order(
     Ok(FunctionNames::new(names))
 }
 
-// Appends the name of a node's function, unless the function is below `first_unnamed`, since those functions have been named already.
+// Appends the name of a node's function, unless the function is below `first_unnamed`: the functions below it have their names already.
 fn name_function_of(
     alloc: Global,
     symbols: &CodeSymbols<'_>,
@@ -88,7 +88,7 @@ fn name_function_of(
     Ok(())
 }
 
-// Returns the printable name of a function, as it is in a table.
+// Returns the name of a function as a table holds it: printable, without line feeds.
 #[tactic(auto, unfolding(crate::specs::StackTables::name_of_function))]
 fn shown_name(alloc: Global, symbols: &CodeSymbols<'_>, function: u32) -> Result<Text, AllocError>
     ensures value { IfOk result (λ text. text ≡ name_of_function symbols.now.image.now symbols.now.bytes.now function) }

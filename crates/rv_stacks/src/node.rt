@@ -1,4 +1,4 @@
-//! Call-tree nodes, and counting in them.
+//! The nodes of a call tree while a run is counted.
 
 ghost use Rattle.std.specs.Prelude.{◌+◌, ◌^◌, ◌<◌, IfOk, length};
 ghost use Rattle.rv_stacks.specs.Nodes.{all_calls, all_steps, EntersOnce, HasChild, StepsMore};
@@ -6,10 +6,11 @@ ghost use Rattle.rv_stacks.specs.Nodes.{all_calls, all_steps, EntersOnce, HasChi
 use crate::children::Children;
 use std::alloc::AllocError;
 
-/// A path of functions, each of which called the next: the path of the parent, then the node's own function.
+/// A node of the call tree of a run in progress. It represents a path of functions, each of which called the next: the path of its parent,
+/// then its own function. Nodes are numbered from 1 in order of creation.
 #[derive(Clone, Copy)]
 pub struct WalkNode {
-    /// The parent's number, or 0 for a node of the first level.
+    /// The parent's number, or 0 if the node has no parent.
     pub parent: usize,
     /// The address of the node's own function.
     pub function: u32,
@@ -19,7 +20,7 @@ pub struct WalkNode {
     pub steps: u64,
 }
 
-/// Returns the number of the child of the node `parent` for this function, which is created if it does not exist.
+/// Returns the number of the child of the node `parent` for this function. Creates the child if it does not exist.
 pub(crate) fn number_of_child(
     nodes: &mut Vec<WalkNode>,
     children: &mut Children,
@@ -43,7 +44,7 @@ pub(crate) fn number_of_child(
     Ok(number)
 }
 
-/// Counts an entry into the node `number`.
+/// Counts one entry into the node with this number.
 pub(crate) fn count_call(nodes: &mut Vec<WalkNode>, number: usize)
     requires positive { 0 < number }
     requires within { number < length nodes.old.items + 1 }
@@ -59,7 +60,7 @@ pub(crate) fn count_call(nodes: &mut Vec<WalkNode>, number: usize)
     };
 }
 
-/// Counts `steps` instructions in the node `number`.
+/// Counts `steps` instructions in the node with this number.
 pub(crate) fn count_steps(nodes: &mut Vec<WalkNode>, number: usize, steps: u32)
     requires positive { 0 < number }
     requires within { number < length nodes.old.items + 1 }

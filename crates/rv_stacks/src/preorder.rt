@@ -1,4 +1,4 @@
-//! Conversion of nodes to preorder.
+//! Conversion of a walk's nodes to preorder.
 
 ghost use Rattle.std.specs.Prelude.{◌≡◌, [], ℕ, List, IfOk, OnOk, length, slice_index_or};
 ghost use Rattle.std.specs.List.{list_all};
@@ -11,19 +11,20 @@ use crate::node::WalkNode;
 use rv_count_tables::{CallNode, CallNodes};
 use std::alloc::{AllocError, Global};
 
-/// The preorder nodes built so far, and the node up to which counts have been moved.
+/// A conversion in progress: the preorder nodes so far, and the current node, in whose subtree it continues. The counts of a node are moved
+/// when it is reached.
 #[derive(Drop)]
 pub struct PreorderBuilder {
-    /// The path of that node.
+    /// The path of the current node.
     pub path: Vec<u32>,
-    /// 0, followed by the number of the node for each prefix of the path.
+    /// 0, followed by the numbers of the nodes on the path to the current node.
     pub trail: Vec<usize>,
     pub nodes: Vec<CallNode>,
-    /// The lowest function that the next child can have.
+    /// The lowest function that the next child of the current node can have.
     pub from: u64,
 }
 
-/// Returns the nodes in preorder. Allocates only the result.
+/// Returns the nodes in preorder. Allocates memory for the result only.
 pub(crate) fn preorder_of_nodes(
     alloc: Global,
     nodes: Vec<WalkNode>,
@@ -40,7 +41,7 @@ pub(crate) fn preorder_of_nodes(
     if are_empty(remaining.as_slice()) {
         return Ok(CallNodes::new(builder.nodes));
     }
-    // Out of memory: not reached. Each node is found from its parent, so all counts have been moved; no contract says so.
+    // Out of memory: not reached. Each node is found from its parent, so all counts were moved; but no contract says so.
     Err(AllocError)
 }
 
@@ -59,7 +60,7 @@ fn is_empty(node: &WalkNode) -> bool
 }
 
 impl PreorderBuilder {
-    // Creates the conversion's state before the first node.
+    // Returns the state of a conversion that has not reached a node.
     fn new(alloc: Global) -> Result<PreorderBuilder, AllocError>
         ensures { IfOk result (λ builder. (nodes : List ANode) → IsPreorderBuilder nodes builder × (builder.nodes.items ≡ [])) }
     {
@@ -73,7 +74,7 @@ impl PreorderBuilder {
         })
     }
 
-    // Moves to the next child of the current node, or back to its parent if there is no further child.
+    // Moves to the next child of the current node, or back to its parent if it has no further child.
     fn visit_next(
         &mut self,
         remaining: &mut Vec<WalkNode>,
@@ -92,7 +93,7 @@ impl PreorderBuilder {
         }
     }
 
-    // Moves the counts of the node `number`, a child of the current node, to the preorder nodes, and makes it the current node.
+    // Moves to the node `number`, a child of the current node, and moves its counts to the preorder nodes.
     fn enter_child(
         &mut self,
         remaining: &mut Vec<WalkNode>,

@@ -12,8 +12,8 @@ use rv_count_tables::{Addresses, CallNodes};
 use rv_counting::{CodeSymbols, Counter, Machine};
 use std::alloc::{AllocError, Global};
 
-/// Returns the counts of a machine's run within a budget of steps, and its call tree with the functions that the symbols define. Takes
-/// longer than the run alone, and needs memory for each address and each path that the run reaches.
+/// Runs a machine within a budget of steps, and returns its counts and its call tree. Functions are delimited by the symbols. Takes longer
+/// than the run alone, and needs memory for each address and each path that the run reaches.
 pub fn count_with_stacks(
     alloc: Global,
     machine: Machine,
@@ -29,8 +29,8 @@ pub fn count_with_stacks(
     Ok((counter.into_addresses(), nodes))
 }
 
-// Runs the machine, and returns its counts and its call tree. A block within one function is executed as a unit, and every other
-// instruction separately.
+// Runs the machine, and returns its counts and its call tree. Blocks within one function are executed as a whole, and all other
+// instructions one at a time.
 fn follow_run(
     alloc: Global,
     machine: Machine,

@@ -4,7 +4,7 @@ use crate::table::stack_table_of_job;
 use rv_counting::{Batch, JobsTable, Work, WorkerState};
 use std::alloc::{AllocError, Global};
 
-/// The work of a batch: one table for each of its jobs, with its counts and its call tree.
+/// The work of computing the table of each job of a batch, with its call tree.
 #[derive(Drop)]
 pub(crate) struct StackWork<'a> {
     pub(crate) batch: &'a Batch<'a>,
@@ -26,12 +26,12 @@ impl Work<JobsTable> for StackWork<'_> {
         self.batch.places.len()
     }
 
-    // Creates the state that a worker reuses from job to job.
+    // Returns a worker's initial state.
     fn new_worker_state(&self, alloc: Global) -> WorkerState {
         WorkerState::new(alloc)
     }
 
-    // Runs the job `number` of the batch, and returns its table.
+    // Runs the job with this number in the batch, counted from 0, and returns its table.
     fn make(
         &self,
         alloc: Global,

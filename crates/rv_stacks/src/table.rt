@@ -14,8 +14,8 @@ use rv_counting::{
 };
 use std::alloc::{AllocError, Global};
 
-/// Runs the job at an index once more, and returns its table: the counts and the call tree of its run. The table of a refused job has no
-/// runs.
+/// Runs the job at an index once more, and returns its table: the counts and the call tree of its run. For a refused job, the table is
+/// empty.
 pub(crate) fn stack_table_of_job(
     alloc: Global,
     plan: &Plan,
@@ -45,7 +45,7 @@ pub(crate) fn stack_table_of_job(
     }
 }
 
-// Returns the table of one run of the image with this path: its counts, its nodes and the names of their functions.
+// Returns the table of one run of the image with this path: its counts, its call tree and the names of the tree's functions.
 fn table_of_run(
     alloc: Global,
     path: &str,

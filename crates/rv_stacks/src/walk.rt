@@ -1,4 +1,4 @@
-//! A walk from node to node.
+//! A walk through a call tree as it grows.
 
 ghost use Rattle.std.specs.Prelude.{◌≡◌, ◌∷◌, ◌++◌, ◌+◌, ◌^◌, ◌<◌, ◌≤◌, [], ℕ, IfOk, OnOk, length, slice_index_or, take};
 ghost use Rattle.rv_stacks.specs.Nodes.{all_calls, all_steps, paths_of};
@@ -10,20 +10,20 @@ use crate::preorder::preorder_of_nodes;
 use rv_count_tables::CallNodes;
 use std::alloc::{AllocError, Global};
 
-/// The call-tree nodes so far, and the current one.
+/// The nodes of a call tree so far, and the current one.
 #[derive(Drop)]
 pub struct Walk {
     /// The path of the current node.
     pub path: Vec<u32>,
-    /// 0, followed by the number of the node for each prefix of the path.
+    /// 0, followed by the numbers of the nodes on the path to the current node.
     pub trail: Vec<usize>,
     pub nodes: Vec<WalkNode>,
-    /// Finds the children of a node.
+    /// Looks up the children of nodes.
     pub children: Children,
 }
 
 impl Walk {
-    /// Creates a walk that has entered no node.
+    /// Creates a walk without nodes.
     pub fn new(alloc: Global) -> Result<Walk, AllocError>
         ensures walk { IfOk result IsWalk }
         ensures path { IfOk result (λ walk. walk.path.items ≡ []) }
@@ -77,14 +77,14 @@ impl Walk {
         count_steps(&mut self.nodes, number, steps);
     }
 
-    /// Returns the nodes of the walk in preorder.
+    /// Returns the nodes in preorder.
     pub fn into_preorder(self, alloc: Global) -> Result<CallNodes, AllocError>
         ensures { IfOk result (ArePreorderOf self.nodes.items) }
     {
         preorder_of_nodes(alloc, self.nodes, &self.children)
     }
 
-    // Returns the number of the current node; 0 if the walk has entered no node.
+    // Returns the number of the current node, or 0 if no node was entered.
     fn last_number(&self) -> usize
         requires { IsWalk self.now }
         ensures within { result < length self.now.nodes.items + 1 }

@@ -1,4 +1,4 @@
-//! Tests of the stacks of a run, using what `rv_stacks` exports: small programs whose call-tree nodes were found by hand.
+//! Tests of `rv_stacks`: small programs whose call trees were determined by hand.
 #![tactic(auto)]
 
 #[cfg(test)]

@@ -1,4 +1,4 @@
-//! Call-tree nodes of runs, by the lines of a table: a program, the addresses of its functions, its budget and its nodes.
+//! Call trees of runs, by the lines of a table: a program, the addresses of its functions, its budget and the nodes of the tree.
 use rv_stacks::{
     Bus, CodeSymbols, Isa, Machine, Map, Misaligned, Region, count_with_stacks, read_image,
 };
@@ -8,7 +8,7 @@ use std::test::Fail;
 
 const BASE: u32 = 0x8000_0000;
 
-// A file of one segment, 64 bytes starting at 80000000, with four function symbols.
+// An ELF file of one segment, 64 bytes at 80000000, with four function symbols.
 const FILE: &str = "\
 7f454c46 01010100 00000000 00000000 0200f300 01000000 00000080 34000000 ed000000 00000000 34002000 01002800 \
 03000000 01000000 54000000 00000080 00000080 40000000 40000000 07000000 04000000 13000000 13000000 13000000 \
@@ -19,11 +19,11 @@ const FILE: &str = "\
 00000000 00940000 00500000 00020000 00000000 00040000 00100000 00000000 00030000 00000000 00000000 00e40000 \
 00090000 00000000 00000000 00010000 00000000 00";
 
-// The offsets of the values of the file's four function symbols.
+// The offsets, in the file, of the values of the four function symbols.
 const VALUES: [usize; 4] = [168, 184, 200, 216];
 
-// Each program starts at 80000000, x2 is 0 at first, and `X` is the exit call, two instructions. Nodes were found by hand: depth, function,
-// calls, steps. A function without a symbol is 0. label | budget | functions | program | nodes.
+// Each program starts at 80000000, x2 is 0 at first, and `X` is the exit call, two instructions. Nodes were determined by hand: depth,
+// function, calls, steps. The function 0 is one without a symbol. label | budget | functions | program | nodes.
 const RUNS: &str = "\
 no instruction | 0 | 80000000 | X | 0 80000000 1 0
 one function | 9 | 80000000 | X | 0 80000000 1 2
@@ -62,7 +62,7 @@ fn machine_of(alloc: Global, program: &str) -> Result<Machine, Fail> {
     Ok(Machine::new(alloc, bus, BASE, Isa::Imc)?)
 }
 
-// Returns the ELF file with functions at these addresses; its other symbols are at 0, where there is no code.
+// Returns the ELF file with functions at these addresses. Its other function symbols are at 0, where there is no code.
 fn file_of(alloc: Global, functions: &str) -> Result<Vec<u8>, Fail> {
     let mut bytes = file_bytes(alloc, FILE)?;
     let mut places = functions.split(' ');
@@ -81,7 +81,7 @@ fn file_of(alloc: Global, functions: &str) -> Result<Vec<u8>, Fail> {
     Ok(bytes)
 }
 
-// Returns the call-tree nodes of the run in a row, in the form that a row has.
+// Returns the nodes of the call tree of the run in a row, as the row writes them.
 fn nodes_text(alloc: Global, row: &str) -> Result<String, Fail> {
     let bytes = file_of(alloc, cell_of(row, 2))?;
     let image = read_image(alloc, bytes.as_slice(), Isa::Imc)?;
@@ -102,7 +102,7 @@ fn nodes_text(alloc: Global, row: &str) -> Result<String, Fail> {
     Ok(text)
 }
 
-// Runs have the call-tree nodes that were found by hand.
+// Runs have the call trees that were determined by hand.
 #[test]
 fn runs_have_the_expected_nodes(rt: HostRuntime) -> Result<(), Fail> {
     check_line_count(RUNS, 14)?;

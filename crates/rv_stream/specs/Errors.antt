@@ -6,12 +6,12 @@ use Rattle.rv_counting.specs.declared_report.WriteError.TheVariants as write
 use Rattle.rv_stream.specs.declared.error.StreamError.{StreamError}
 use Rattle.rv_stream.specs.declared.error.StreamError.TheVariants as stream
 
--- the error with which a stream ends if one of its writes failed with this error
+-- the stream's error for a failed write to its sink
 abbrev pub stream_error_of_write : WriteError → StreamError
 stream_error_of_write write.OutOfMemory = stream.OutOfMemory
 stream_error_of_write write.Failed = stream.Failed
 
--- the error with which a stream ends if its run failed with this error
+-- the stream's error for a failed run of its jobs
 abbrev pub stream_error_of_run : RunError → StreamError
 stream_error_of_run run.OutOfMemory = stream.OutOfMemory
 stream_error_of_run run.NoWorker = stream.NoWorker

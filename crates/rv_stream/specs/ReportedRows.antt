@@ -7,8 +7,7 @@ use Rattle.rv_stream.specs.declared.reported_row.ReportedRow.{ReportedRow}
 use Rattle.rv_stream.specs.Limits.{failures_left_after, rows_up_to}
 use Rattle.rv_expect.specs.Judgement.{JudgeView, fails}
 
--- `told` is the row of the batch's job `number`, with the job's index in the list and the text that `row_text` returns for the index and
--- the row
+-- `told` is the row of the batch's job with this number, the job's index in the list, and the text that `row_text` returns for them
 pub record IsReportedRow (row_text : ℕ → Row → List ℕ) (batch : Batch) (number : ℕ) (told : ReportedRow) : Type 0 where
   pub index : told.index ≡ index_of_number batch number
   pub row : told.row ≡ row_of_number batch number
@@ -22,12 +21,12 @@ rows_of_reported told = map (λ (t : ReportedRow). t.row) told
 abbrev pub texts_of_reported : List ReportedRow → List (List ℕ)
 texts_of_reported told = map (λ (t : ReportedRow). t.text.items) told
 
--- the number of further failures that stop the run after these rows; `None` without a limit
+-- the number of further failures after which the run stops, when these rows have passed; `None` without a limit
 abbrev pub failures_left_after_row : Option ℕ → JudgeView → List Row → Option ℕ
 failures_left_after_row max_failures judging rows = option_map (λ number. failures_left_after (fails judging) number rows) max_failures
 
--- `collected` are the rows up to the failure that stops the run, unless an allocation failed, as `refused` says; `left` is the number of
--- further failures that stop the run
+-- no row comes after the failure that stops the run; `left` is the number of further failures after which it stops; and `collected` is
+-- these rows, unless `refused` says that an allocation failed
 pub record AreRowsUpToFailure (max_failures : Option ℕ) (judging : JudgeView) (left : Option ℕ) (refused : Bool) (collected rows : List Row) : Type 0 where
   pub collected_all : refused ≡ false → collected ≡ rows
   pub failures_left : left ≡ failures_left_after_row max_failures judging rows

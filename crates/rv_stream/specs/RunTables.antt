@@ -9,21 +9,21 @@ use Rattle.rv_counting.specs.declared_sum.SumError.{SumError}
 use Rattle.rv_counting.specs.declared_table.CountTable.{CountTable}
 use Rattle.rv_stream.specs.declared.stream_options.StreamOptions.{StreamOptions}
 
--- the outcome of a run whose tables were added: without a sum it is out of memory
+-- the outcome of a run whose tables were added: if they could not be added, the run is out of memory
 abbrev pub outcome_with_sum : Option SumError → Result Flow RunError → Result Flow RunError
 outcome_with_sum (Some error) (Ok flow) = Err OutOfMemory
 outcome_with_sum failed ran = ran
 
--- whether a run with these options is counted: only a run to its end is
+-- whether a run is counted: the option is set, and there is no limit on failures
 abbrev pub is_counted : Bool → Option ℕ → Bool
 is_counted counts_instructions None = counts_instructions
 is_counted counts_instructions (Some max_failures) = false
 
--- there is a table if the run was counted, and only then; it is that of the jobs at these indices
+-- there is a table if and only if the run was counted, and it is the table of the jobs at these indices
 abbrev pub IsTableIf : Bool → PlanView → List ℕ → Option CountTable → Type 0
 IsTableIf true plan indices table = IsSomeAnd table (IsTableOfJobsAt plan indices)
 IsTableIf false plan indices table = table ≡ None
 
--- the table of a run of the jobs at these indices with these options
+-- a run of the jobs at these indices with these options returns their table if it is counted, and no table otherwise
 abbrev pub IsTableOfRun : StreamOptions → PlanView → List ℕ → Option CountTable → Type 0
 IsTableOfRun options plan indices table = IsTableIf (is_counted options.counts_instructions options.max_failures) plan indices table

@@ -1,4 +1,4 @@
-//! Streams of rows whose runs are counted.
+//! Streams of rows whose runs are also counted.
 
 ghost use Rattle.std.specs.Prelude.{◌≡◌, ◌≤◌, [], IfErr, IfOk, IsSomeAnd, None, OnErr, OnOk, length};
 ghost use Rattle.std.specs.Io.KnownBytes.{Appends};
@@ -30,8 +30,8 @@ use std::marker::Brand;
 use std::sync::Wait;
 use std::thread::Threads;
 
-/// Like [`crate::stream_rows`], for a run to its end that is counted: consecutive jobs of one image are run together, whatever the crew's
-/// group, and their tables are added.
+/// Like [`crate::stream_rows`], for a run without a limit on failures whose executed instructions are counted: consecutive jobs of one
+/// image are run together, whatever the crew's chunk length, and their tables are added.
 pub(crate) fn stream_counted_rows<
     J: StreamSpec + Send,
     R: Threads + Wait + Sync,
@@ -108,12 +108,13 @@ pub(crate) fn stream_counted_rows<
     }
 }
 
-// Returns the outcome of a run whose tables were added: a run without a sum is out of memory, since the tables of so few jobs have one.
+// Returns the outcome of a run whose tables were added. If they could not be added, the run is out of memory: the tables of so few jobs
+// always have a sum.
 fn outcome_with_sum(sum: &TableSum, ran: Result<Flow, RunError>) -> Result<Flow, RunError>
     ensures { result ≡ outcome_with_sum sum.now.failed ran }
 {
     match ran {
-        // Out of memory: adding the tables fails for that alone.
+        // Adding the tables can fail for this reason only.
         Ok(_) if sum.has_failed() => Err(RunError::OutOfMemory),
         ran => ran,
     }

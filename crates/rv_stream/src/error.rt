@@ -37,7 +37,7 @@ impl From<AllocError> for StreamError {
 impl From<WriteError> for StreamError {
     ghost from_gives = { λ error given. given ≡ stream_error_of_write error };
 
-    // Returns the error with which a stream ends if one of its writes failed with this error.
+    // Returns the stream's error for a failed write to its sink.
     fn from(error: WriteError) -> StreamError {
         match error {
             WriteError::OutOfMemory => StreamError::OutOfMemory,
@@ -49,7 +49,7 @@ impl From<WriteError> for StreamError {
 impl From<RunError> for StreamError {
     ghost from_gives = { λ error given. given ≡ stream_error_of_run error };
 
-    // Returns the error with which a stream ends if its run failed with this error.
+    // Returns the stream's error for a failed run of its jobs.
     fn from(error: RunError) -> StreamError {
         match error {
             RunError::OutOfMemory => StreamError::OutOfMemory,

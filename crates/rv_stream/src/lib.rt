@@ -1,9 +1,10 @@
-//! Streams: texts of rows that are written in list order while later rows are still being made.
+//! Streams: the texts of rows, which are written in list order while later rows are still being computed.
 //!
-//! [`stream_rows`] runs a [`Batch`](rv_counting::Batch) with a [`Crew`](rv_counting::Crew). A caller's [`RowReporter`] makes the text of each
-//! row, which is written as soon as those of all earlier rows are. With `Ok` the sink has received the texts of all rows, in order, for
-//! every number of workers and of jobs in a chunk; after an error it has received a prefix of them. A [`StreamOptions`] ends the run at a
-//! failure. An observer sees each row with its text: a [`RowSender`] writes the text of another reporter to another sink.
+//! [`stream_rows`] runs a [`Batch`](rv_counting::Batch) with a [`Crew`](rv_counting::Crew). A caller's [`RowReporter`] makes the text of
+//! each row, which is written as soon as those of all earlier rows are. With `Ok` the sink has received the texts of all rows, in order,
+//! whatever the number of workers and of jobs in a chunk; after an error it has received a prefix of them. [`StreamOptions`] can limit the
+//! number of failures after which the run ends. An observer sees each row with its text: a [`RowSender`], for example, writes the text of
+//! another reporter to another sink.
 #![tactic(auto)]
 
 mod counted_stream;
@@ -27,7 +28,7 @@ pub use stream::{ReporterOutput, StreamedRun, stream_rows};
 pub use stream_options::StreamOptions;
 pub use stream_spec::StreamSpec;
 
-// From the crates below: what this interface names, and what its callers need with it.
+// Re-exports from lower crates: the types in this interface, and what its callers need with them.
 pub use rv_base::{Bytes, ReadError, Sink, SinkFailed, Store, put_all};
 pub use rv_counting::{
     Batch, Both, Crew, Flow, Observer, Row, RowReporter, RunError, WriteError, run_batch,

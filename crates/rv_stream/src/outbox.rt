@@ -17,9 +17,9 @@ use std::marker::PhantomData;
 #[derive(Drop)]
 pub(crate) struct Outbox<J: StreamSpec, W: Sink + Drop> {
     pub(crate) out: W,
-    /// The buffered text.
+    /// The text that was not written yet.
     pub(crate) buffered: Vec<u8>,
-    /// The error after which nothing more is written.
+    /// The error of an earlier write or allocation, if any; after one, nothing more is written.
     pub(crate) failed: Option<WriteError>,
     of: PhantomData<J>,
 }
@@ -40,7 +40,7 @@ impl<J: StreamSpec, W: Sink + Drop> Outbox<J, W> {
         }
     }
 
-    /// Buffers the text that the reporter returns for a row, and returns whether the run should continue.
+    /// Appends the reporter's text of a row to the buffer. Returns `Stop`, and remembers the error, if memory ran out.
     pub(crate) fn push_text<T: RowReporter>(
         &mut self,
         alloc: Global,
@@ -58,14 +58,14 @@ impl<J: StreamSpec, W: Sink + Drop> Outbox<J, W> {
         match reporter.push_row_text(alloc, made.index, &made.row, &mut self.buffered) {
             Ok(()) => Flow::Continue,
             Err(_) => {
-                // Out of memory: a reporter fails for that alone.
+                // A reporter can fail for this reason only.
                 self.failed = Some(WriteError::OutOfMemory);
                 Flow::Stop
             }
         }
     }
 
-    /// Writes the buffered text, and returns whether the run should continue.
+    /// Writes the buffered text and empties the buffer. Returns `Stop`, and remembers the error, if the write failed.
     pub(crate) fn send(&mut self) -> Flow
         requires { self.old.failed ≡ None }
         ensures sent { (text : List ℕ)
@@ -86,7 +86,8 @@ impl<J: StreamSpec, W: Sink + Drop> Outbox<J, W> {
         }
     }
 
-    /// Writes the buffered text, and returns the sink and whether it has received the whole text; after an error it has received a prefix.
+    /// Writes the buffered text. Returns the sink and whether it has received the whole text; after an error it has received a prefix of
+    /// it.
     pub(crate) fn finish(self) -> (W, Result<(), WriteError>)
         ensures all { (text : List ℕ) → IsSent J.accepted_before (W.accepted self.out) J.failure_count (W.failure_count self.out) self.failed self.buffered.items text
             → OnOk result.1 (Appends J.accepted_before (W.accepted result.0) text

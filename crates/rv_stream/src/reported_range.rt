@@ -1,4 +1,4 @@
-//! The rows of ranges of a batch, with their reported texts, and the tables of their runs.
+//! The rows of ranges of a batch, with their texts, and the tables of the same runs.
 
 ghost use Rattle.std.specs.Prelude.{◌≡◌, ◌+◌, ◌-◌, ◌<◌, ◌≤◌, ℕ, IfOk, length, slice_index_or};
 ghost use Rattle.rv_counting.specs.BatchRanges.{AreIndexRanges, indices_in};
@@ -28,7 +28,7 @@ impl HasTable for ReportedRange {
     }
 }
 
-/// Computes the rows of each range of a batch, their texts, and the table of the same runs.
+/// The work of running each range of a batch, which computes the rows of its jobs, their texts, and the table of the same runs.
 #[derive(Drop)]
 pub(crate) struct CountedRangeWork<'b, 'r, 't, T: RowReporter> {
     pub(crate) batch: &'b Batch<'b>,
@@ -80,7 +80,7 @@ impl<T: RowReporter> Work<ReportedRange> for CountedRangeWork<'_, '_, '_, T> {
         self.ranges.len()
     }
 
-    // Creates the state that a worker reuses from job to job.
+    // Returns a worker's initial state, whose memory it reuses from range to range.
     fn new_worker_state(&self, alloc: Global) -> WorkerState {
         WorkerState::new(alloc)
     }

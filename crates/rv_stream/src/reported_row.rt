@@ -14,7 +14,7 @@ pub struct ReportedRow {
     pub text: Vec<u8>,
 }
 
-/// Computes the rows of a batch and their texts.
+/// The work of computing the rows of a batch and their texts.
 #[derive(Drop)]
 pub(crate) struct ReportedRowWork<'b, 't, T: RowReporter> {
     pub(crate) batch: &'b Batch<'b>,
@@ -37,12 +37,12 @@ impl<T: RowReporter> Work<ReportedRow> for ReportedRowWork<'_, '_, T> {
         self.batch.places.len()
     }
 
-    // Creates the state that a worker reuses from job to job.
+    // Returns a worker's initial state, whose memory it reuses from job to job.
     fn new_worker_state(&self, alloc: Global) -> WorkerState {
         WorkerState::new(alloc)
     }
 
-    // Runs the job `number` of the batch, and returns its row with its index and its text.
+    // Runs the job with this number in the batch, counted from 0, and returns its row with its index in the list and its text.
     fn make(
         &self,
         alloc: Global,

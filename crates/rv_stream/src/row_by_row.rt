@@ -28,13 +28,13 @@ impl<L: Listener<ReportedRow> + Drop> Listener<ReportedRange> for RowByRow<L> {
         deliver_rows(&mut self.listener, output.rows)
     }
 
-    // Lets the listener flush what it buffered.
+    // Passes the pause on to the listener, which may write what it buffered.
     fn pause(&mut self) -> Flow {
         self.listener.pause()
     }
 }
 
-// Delivers rows to a listener up to the one at which it stops the run, and returns whether the run continues.
+// Delivers rows to a listener, one by one, until it stops the run. Returns whether the run continues.
 fn deliver_rows<L: Listener<ReportedRow>>(listener: &mut L, rows: Vec<ReportedRow>) -> Flow
     requires goes { L.stops listener.old → ⊥ }
     ensures received { (before : List AReportedRow) → L.has_received listener.old before

@@ -1,4 +1,4 @@
-//! An observer that sends another text of each row.
+//! An observer that writes texts of rows to a sink of its own.
 
 ghost use Rattle.std.specs.Prelude.{◌≡◌, [], ℕ, List, None, IfSome, OnErr, OnOk, is_some, true};
 ghost use Rattle.std.specs.Io.KnownBytes.{Appends};
@@ -12,8 +12,8 @@ use rv_base::Sink;
 use rv_counting::{Flow, Observer, RowReporter, WriteError};
 use std::alloc::Global;
 
-/// Sends to a sink the text that its own reporter returns for each row. Rows that arrive together are written at once. Without a sink it
-/// sends nothing.
+/// An observer that asks its own reporter for the text of each row, and writes it to its own sink. The texts of rows that arrive together
+/// are written at once. Without a sink it does nothing.
 #[derive(Drop)]
 pub struct RowSender<'t, J: StreamSpec, T: RowReporter, W: Sink + Drop> {
     alloc: Global,
@@ -43,8 +43,8 @@ impl<'t, J: StreamSpec, T: RowReporter, W: Sink + Drop> RowSender<'t, J, T, W> {
         }
     }
 
-    /// Writes the buffered text, and returns the sink, if there is one, and whether it has received the whole text; after an error it has
-    /// received a prefix.
+    /// Writes the buffered text. Returns the sink, if there is one, and whether it has received the whole text; after an error it has
+    /// received a prefix of it.
     pub fn finish(self) -> (Option<W>, Result<(), WriteError>)
         ensures there { is_some result.0 ≡ J.has_sink }
         ensures all { (text : List ℕ)
@@ -78,7 +78,7 @@ impl<J: StreamSpec, T: RowReporter, W: Sink + Drop> Observer<ReportedRow>
 
     ghost stops = { λ s. IsSomeAnd s.outbox (λ box. is_some box.failed ≡ true) };
 
-    // Buffers the text of a row, and returns whether the run should continue. Without a sink, does nothing.
+    // Buffers the text of a row. Returns `Stop` if memory ran out. Without a sink, does nothing.
     fn see(&mut self, output: &ReportedRow) -> Flow {
         let (alloc, reporter) = (self.alloc, self.reporter);
         match &mut self.outbox {
@@ -87,7 +87,7 @@ impl<J: StreamSpec, T: RowReporter, W: Sink + Drop> Observer<ReportedRow>
         }
     }
 
-    // Writes the buffered text, and returns whether the run should continue. Without a sink, does nothing.
+    // Writes the buffered text. Returns `Stop` if the write failed. Without a sink, does nothing.
     fn pause(&mut self) -> Flow {
         match &mut self.outbox {
             Some(outbox) => outbox.send(),

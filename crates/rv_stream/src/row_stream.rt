@@ -1,4 +1,4 @@
-//! The rows of a run as they are delivered, and its end.
+//! Who receives the rows of a stream, and what the stream returns at its end.
 
 ghost use Rattle.std.specs.Prelude.{◌≡◌, ◌≤◌, [], IfErr, IfOk, Ok, OnErr, OnOk, Some, None, is_ok, false, length, true};
 ghost use Rattle.std.specs.Io.KnownBytes.{Appends};
@@ -31,7 +31,8 @@ pub(crate) struct RowStream<'b, 'o, 't, T: RowReporter> {
     pub(crate) reporter: &'t T,
 }
 
-/// Returns the recipients of a stream's rows: the sink, which receives their texts, the caller's observer, and the rows that are kept.
+/// Returns the recipients of a stream's rows: the sink, which receives their texts, the caller's observer, and the list of rows that the
+/// stream returns.
 pub(crate) fn row_recipients<'k, J: StreamSpec, W: Sink + Drop, B: Observer<ReportedRow> + Drop>(
     alloc: Global,
     options: &StreamOptions<'k>,
@@ -56,7 +57,8 @@ pub(crate) fn row_recipients<'k, J: StreamSpec, W: Sink + Drop, B: Observer<Repo
 }
 
 impl<T: RowReporter> RowStream<'_, '_, '_, T> {
-    /// Writes the buffered text of a run's rows, and returns the sink, the observer and the rows, given the outcome of the run.
+    /// Finishes a stream after its run, which had the outcome `ran`: writes the text that is still buffered, and returns the sink, the
+    /// observer and the rows.
     pub(crate) fn finish<'k, J: StreamSpec, W: Sink + Drop, B: Observer<ReportedRow> + Drop>(
         &self,
         recipients: Both<TextSender<J, W>, Both<B, RowsUpToFailure<'k, J>>>,
@@ -97,7 +99,8 @@ impl<T: RowReporter> RowStream<'_, '_, '_, T> {
     }
 }
 
-// Returns the rows of a run, or an error if it ended before its last row.
+// Returns the rows of a run: all of them, or those up to the failure that stopped it. Returns an error if the run ended early for any other
+// reason.
 fn rows_of_run<J: StreamSpec>(
     outcome: Result<Flow, RunError>,
     listener: RowsUpToFailure<'_, J>,
@@ -111,7 +114,7 @@ fn rows_of_run<J: StreamSpec>(
 {
     let flow = outcome?;
     if listener.allocation_failed {
-        // Out of memory: keeping a row fails for that alone.
+        // Storing a row can fail for this reason only.
         return Err(StreamError::OutOfMemory);
     }
     match flow {

@@ -1,4 +1,4 @@
-//! A listener that keeps rows up to a failure.
+//! A listener that stores rows up to the failure that stops the run.
 
 ghost use Rattle.std.specs.Prelude.{◌≡◌, ◌-◌, ◌++◌, ◌∷◌, [], false, if◌then◌else◌, option_map};
 ghost use Rattle.rv_expect.specs.Judgement.{judge_view};
@@ -12,12 +12,12 @@ use rv_expect::Judge;
 use std::alloc::Global;
 use std::marker::PhantomData;
 
-/// A listener that keeps the rows up to the failure that stops the run, and stops the run there.
+/// A listener that stores the rows it receives, and stops the run at the last failure that the options allow.
 #[derive(Drop)]
 pub(crate) struct RowsUpToFailure<'k, J: StreamSpec> {
-    // Which rows are failures.
+    // Decides which rows are failures.
     judge: Judge<'k>,
-    /// How many more failures stop the run.
+    /// The number of further failures after which the run stops, or `None` without a limit.
     pub(crate) failures_left: Option<u32>,
     pub(crate) rows: Vec<Row>,
     /// Whether an allocation failed.
@@ -55,7 +55,7 @@ impl<J: StreamSpec> Listener<ReportedRow> for RowsUpToFailure<'_, J> {
 
     ghost stops = { λ s. (s.failures_left ≡ Some 0) ⊎ (s.allocation_failed ≡ true) };
 
-    // Stores a row, and returns whether the run should continue: not after the failure that stops it.
+    // Stores a row. Returns `Stop` if the row is the failure that stops the run, or if memory ran out.
     fn receive(&mut self, output: ReportedRow) -> Flow {
         let failed = self.judge.fails(&output.row);
         self.failures_left = failures_left_after_row(self.failures_left, failed);
@@ -81,7 +81,7 @@ fn push_row(rows: &mut Vec<Row>, row: Row) -> bool
     rows.push(row).is_err()
 }
 
-// Returns the number of further failures that stop the run after one more row, given whether this row failed; `None` without a limit.
+// Returns `failures_left` after one more row: one less if the row failed. `None` without a limit.
 fn failures_left_after_row(left: Option<u32>, failed: bool) -> Option<u32>
     ensures { result ≡ (if failed then option_map (λ n. n - 1) left else left) }
 {

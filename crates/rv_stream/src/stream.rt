@@ -1,4 +1,4 @@
-//! Runs whose rows are reported as they come.
+//! Runs whose rows are written as they are computed.
 
 ghost use Rattle.std.specs.Prelude.{◌≡◌, ◌≤◌, [], IfErr, IfOk, OnErr, OnOk, length};
 ghost use Rattle.std.specs.Io.KnownBytes.{Appends};
@@ -32,19 +32,19 @@ pub struct ReporterOutput<'t, T: RowReporter, W: Sink + Drop> {
     pub out: W,
 }
 
-/// The rows of a stream, and the table of their runs if these were counted.
+/// The rows of a stream, and the table of their runs if the executed instructions were counted.
 #[derive(Drop)]
 pub struct StreamedRun {
     pub rows: Rows,
     pub table: Option<CountTable>,
 }
 
-/// Runs a batch, to its end or up to the failure that stops it. Writes the text of each row to the sink, in list order, as soon as the
-/// texts of all earlier rows have been written. An observer sees each row with its text. Returns the sink, the observer, and the rows with
-/// the table of the same runs if they are counted. If it returns the rows, the sink has received all texts and the observer has seen all
-/// rows; after an error, only a prefix of them.
+/// Runs a batch to its end, or up to the failure that stops it. Writes the text of each row to the sink, in list order, as soon as the
+/// texts of all earlier rows have been written. An observer sees each row with its text. Returns the sink, the observer, and the rows, with
+/// the table of the same runs if these are counted. If it returns the rows, the sink has received all texts and the observer has seen all
+/// rows; after an error, both have received a prefix of them.
 ///
-/// `J` specifies the stream: the caller chooses its ghost members, with a `Brand` of its own.
+/// `J` specifies the stream: the caller implements the trait for a type of its own, and chooses its ghost members.
 pub fn stream_rows<
     J: StreamSpec + Send,
     R: Threads + Wait + Sync,

@@ -1,14 +1,14 @@
-//! How far a stream runs, and whether it counts.
+//! The options of a stream.
 
 use rv_expect::Judge;
 
-/// How far a stream runs, and whether it counts what its jobs execute.
+/// How far a stream runs, and whether it counts the instructions that its jobs execute.
 #[derive(Clone, Copy, Drop)]
 pub struct StreamOptions<'a> {
-    /// Which rows are failures.
+    /// Decides which rows are failures.
     pub judge: Judge<'a>,
-    /// After how many failures the run stops; `None` if it runs to its end. With 0 there are no rows.
+    /// The number of failures after which the run stops; `None` if it runs to its end. With 0 no job is run.
     pub max_failures: Option<u32>,
-    /// Whether the executed instructions are counted in the same run. A run with `max_failures` is not counted.
+    /// Whether the executed instructions are counted in the same run. Ignored if `max_failures` is set.
     pub counts_instructions: bool,
 }

@@ -1,27 +1,29 @@
-//! The specification of a stream.
+//! The specification of a stream, which contracts refer to.
 
 use std::marker::Brand;
 
-/// Specifies a stream before it begins. All members are ghosts, and each stream chooses its own.
+/// What a stream does, fixed before it begins. All members are ghosts; each stream has an implementation of its own.
 pub trait StreamSpec {
     ghost use Rattle.std.specs.Prelude.{ℕ, Bool, List, Option};
     ghost use Rattle.rv_expect.specs.Judgement.{JudgeView};
     ghost use Rattle.rv_counting.specs.declared_row.Row.{Row};
 
-    // What the sink received before, and how many writes failed: the sink of the stream, or that of a [`crate::RowSender`].
+    // The bytes that the sink had accepted before the stream, and the number of its failed writes: of the stream's sink, or of the sink of
+    // a [`crate::RowSender`].
     ghost accepted_before: { Option (List ℕ) };
 
     ghost failure_count: { ℕ };
 
-    // The number of the failure that ends the run, and what counts as a failure.
+    // After how many failures the run stops, and which rows are failures.
     ghost max_failures: { Option ℕ };
 
     ghost judge: { JudgeView };
 
-    // Whether a [`crate::RowSender`] has a sink, and what it sends for the job at an index and its row.
+    // Whether a [`crate::RowSender`] has a sink.
     ghost has_sink: { Bool };
 
-    // Whether an observer may keep the texts of rows that count as failures.
+    // Whether an observer may store the texts of rows that are failures, and the text that a [`crate::RowSender`] writes for the row of the
+    // job at an index.
     ghost keeps_failure_texts: { Bool };
 
     ghost row_text: { ℕ → Row → List ℕ };

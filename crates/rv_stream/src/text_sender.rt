@@ -1,4 +1,4 @@
-//! An observer that writes the reported texts of rows.
+//! An observer that writes the texts of rows.
 
 ghost use Rattle.std.specs.Prelude.{◌≡◌, [], None};
 ghost use Rattle.rv_stream.specs.SentTexts.{IsSent};
@@ -10,7 +10,7 @@ use rv_base::Sink;
 use rv_counting::{Flow, Observer, WriteError};
 use std::alloc::Global;
 
-/// An observer that writes the texts that the workers computed for the rows. Rows that arrive together are written at once.
+/// An observer that writes the texts that the workers made for the rows. The texts of rows that arrive together are written at once.
 #[derive(Drop)]
 pub(crate) struct TextSender<J: StreamSpec, W: Sink + Drop> {
     pub(crate) outbox: Outbox<J, W>,
@@ -42,7 +42,7 @@ impl<J: StreamSpec, W: Sink + Drop> Observer<ReportedRow> for TextSender<J, W> {
 
     ghost stops = { λ s. is_some s.outbox.failed ≡ true };
 
-    // Buffers the text of a row, and returns whether the run should continue.
+    // Buffers the text of a row. Returns `Stop` if memory ran out.
     fn see(&mut self, output: &ReportedRow) -> Flow {
         match self
             .outbox
@@ -51,14 +51,14 @@ impl<J: StreamSpec, W: Sink + Drop> Observer<ReportedRow> for TextSender<J, W> {
         {
             Ok(()) => Flow::Continue,
             Err(_) => {
-                // Out of memory: `extend_from_slice` fails by that alone.
+                // `extend_from_slice` can fail for this reason only.
                 self.outbox.failed = Some(WriteError::OutOfMemory);
                 Flow::Stop
             }
         }
     }
 
-    // Writes the buffered text, and returns whether the run should continue.
+    // Writes the buffered text. Returns `Stop` if the write failed.
     fn pause(&mut self) -> Flow {
         self.outbox.send()
     }

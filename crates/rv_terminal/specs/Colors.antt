@@ -1,28 +1,28 @@
--- Which parts of results are coloured on a terminal: PASS and actual results are green, FAIL and expected results are red.
+-- Which parts of results are colored on a terminal: PASS and actual results are green, FAIL and expected results are red.
 use Rattle.std.specs.Prelude.{◌==◌, ◌||◌, ◌+◌, ℕ, Bool, true, false, List, [], ◌∷◌, ◌++◌, codes, if◌then◌else◌, nat_lt}
 use Rattle.rv_terminal.specs.declared.line_position.Mark.{Mark}
 use Rattle.rv_terminal.specs.declared.line_position.Mark.TheVariants as mark
 use Rattle.rv_terminal.specs.declared.line_position.LinePosition.{LinePosition}
 use Rattle.rv_terminal.specs.declared.line_position.LinePosition.TheVariants as position
 
--- ---- marks
+-- ---- escape sequences
 
 -- the byte that begins a terminal's escape sequences
 abbrev pub escape : ℕ
 escape = 27
 
--- the byte `m`, which ends a terminal's escape sequences for colours
+-- the byte `m`, which ends a terminal's escape sequence for a color
 abbrev pub mark_terminator : ℕ
 mark_terminator = 109
 
--- the escape sequence of the terminal for a mark: for red, for green, or to reset the colour; empty for `Nothing`
+-- the escape sequence for a change of color: to red, to green, or back to the default; empty for `Nothing`
 abbrev pub mark_text : Mark → List ℕ
 mark_text mark.Nothing = []
 mark_text mark.Red = escape ∷ codes "[31m"
 mark_text mark.Green = escape ∷ codes "[32m"
 mark_text mark.End = escape ∷ codes "[0m"
 
--- whether a mark has no escape sequence
+-- whether there is no change of color
 abbrev pub is_empty : Mark → Bool
 is_empty mark.Nothing = true
 is_empty _ = false
@@ -57,86 +57,88 @@ is_minus byte = byte == 45
 abbrev pub is_plus : ℕ → Bool
 is_plus byte = byte == 43
 
--- the number of spaces before expected and actual results
+-- the number of spaces before the signs of expected and actual results
 abbrev pub margin : ℕ
 margin = 5
 
--- the mark before a line's sign: red before a minus, green before a plus, none before any other byte
+-- the change of color before a sign: red before a minus, green before a plus, none before any other byte
 abbrev pub sign_mark : ℕ → Mark
 sign_mark byte = if is_minus byte then mark.Red else if is_plus byte then mark.Green else mark.Nothing
 
--- the mark before the first byte of a line that begins without spaces: red before `F`, green before `P`, and before any other byte the mark
--- that `sign_mark` returns
+-- the change of color before the first byte of a line that does not begin with spaces: red before `F`, green before `P`, and otherwise as
+-- for a sign
 abbrev pub word_mark : ℕ → Mark
 word_mark byte = if begins_fail byte then mark.Red else if begins_pass byte then mark.Green else sign_mark byte
 
--- the mark before the first byte after the spaces at the beginning of a line: of a word or a sign if there are no spaces, of a sign if
--- there are as many as `margin`, and otherwise none
+-- the change of color before the first byte of a line that is not a space: as for a word without spaces before it, as for a sign after
+-- `margin` spaces, and otherwise none
 abbrev pub margin_mark : ℕ → ℕ → Mark
 margin_mark spaces byte =
     if spaces == 0 then word_mark byte else if spaces == margin then sign_mark byte else mark.Nothing
 
--- the mark before a byte that does not begin an escape sequence: a word's colour ends before a space, and every colour before a line feed
+-- the change of color before a byte that does not begin an escape sequence: the color of a word ends before a space, and every color ends
+-- before a line feed
 abbrev pub line_mark : LinePosition → ℕ → Mark
 line_mark (position.Margin spaces) byte = margin_mark spaces byte
 line_mark position.Word byte = if is_space byte || is_line_feed byte then mark.End else mark.Nothing
 line_mark position.Line byte = if is_line_feed byte then mark.End else mark.Nothing
 line_mark position.Rest byte = mark.Nothing
 
--- the mark before a byte; also a byte of the text that begins an escape sequence has a mark before it, which distinguishes this sequence
--- from the marks
+-- the change of color before a byte; there is one, too, before an escape sequence of the text itself, which tells it from those that were
+-- added
 abbrev pub mark_before : LinePosition → ℕ → Mark
 mark_before here byte = if is_escape byte then mark.End else line_mark here byte
 
--- the position after the first byte of a line that is not a space, given how many spaces are before it
+-- the position after the first byte of a line that is not a space; `spaces` is the number of spaces before it
 abbrev pub position_after_first : ℕ → ℕ → LinePosition
 position_after_first spaces byte = if is_empty (margin_mark spaces byte) then position.Rest
     else if is_minus byte || is_plus byte then position.Line else position.Word
 
--- the position after a byte of a line that is neither a line feed nor an escape
+-- the position after a byte of a line that is neither a line feed nor the start of an escape sequence
 abbrev pub position_in_line : LinePosition → ℕ → LinePosition
 position_in_line (position.Margin spaces) byte = if is_space byte
     then (if nat_lt spaces margin then position.Margin (spaces + 1) else position.Rest) else position_after_first spaces byte
 position_in_line position.Word byte = if is_space byte then position.Rest else position.Word
 position_in_line here byte = here
 
--- the position after a byte: a line feed begins a new line, and after an escape sequence of the text the rest of the line is not coloured
+-- the position after a byte: a line feed begins a new line, and after an escape sequence of the text itself the rest of the line is not
+-- colored
 abbrev pub position_after : LinePosition → ℕ → LinePosition
 position_after here byte = if is_line_feed byte then position.Margin 0
     else if is_escape byte then position.Rest else position_in_line here byte
 
--- ---- coloured texts
+-- ---- texts with colors
 
--- a text with its marks, given the position in a line at which the text begins
+-- a text with its escape sequences, beginning at this position in a line
 unfoldable pub colored : LinePosition → List ℕ → List ℕ
 colored here [] = []
 colored here (byte ∷ rest) = mark_text (mark_before here byte) ++ byte ∷ colored (position_after here byte) rest
 
--- the position at which a text begins: the start of a line
+-- the start of a line
 abbrev pub line_start : LinePosition
 line_start = position.Margin 0
 
 -- ---- removing the colours
 
--- where a byte of a coloured text is: in the text, in a mark, or immediately after a mark
+-- where a byte of a text with colors is: in the text, in an escape sequence, or directly after one
 pub data ByteLocation : Type 0 where
   InText : ByteLocation
   InMark : ByteLocation
   AfterMark : ByteLocation
 
--- where the next byte is, given where this byte is; the byte immediately after a mark always belongs to the text
+-- where the next byte is, given where this byte is; the byte directly after an added escape sequence always belongs to the text
 abbrev pub location_after : ByteLocation → ℕ → ByteLocation
 location_after InText byte = if is_escape byte then InMark else InText
 location_after InMark byte = if byte == mark_terminator then AfterMark else InMark
 location_after AfterMark byte = InText
 
--- the part of the plain text that a byte of a coloured text stands for: the byte itself, or nothing if it belongs to a mark
+-- what a byte of a text with colors is in the plain text: the byte itself, or nothing if it belongs to an added escape sequence
 abbrev pub text_of_byte : ByteLocation → ℕ → List ℕ
 text_of_byte InText byte = if is_escape byte then [] else byte ∷ []
 text_of_byte InMark byte = []
 text_of_byte AfterMark byte = byte ∷ []
 
--- a coloured text without its marks, given where its first byte is
+-- a text with colors, without its added escape sequences; the first argument says where its first byte is
 unfoldable pub uncolored : ByteLocation → List ℕ → List ℕ
 uncolored here [] = []
 uncolored here (byte ∷ rest) = text_of_byte here byte ++ uncolored (location_after here byte) rest

@@ -1,4 +1,4 @@
-//! A sink that colours results.
+//! A sink that can color results.
 
 ghost use Rattle.std.specs.Prelude.{◌≡◌, ◌≤◌, IfErr, OnOk, is_err};
 ghost use Rattle.rv_terminal.specs.ColorSinks.{IsColoredAs, IsPartlyColoredAs, first_state, has_failed, results_of};
@@ -8,7 +8,8 @@ use crate::output_state::{OutputState, write_in_state};
 use rv_rows::{Sink, SinkFailed};
 use std::marker::{Brand, Model, PhantomData};
 
-/// Whether results are coloured, and what the sink had received before them. Each command has its own implementation.
+/// Whether results are colored, and what the sink had accepted before them. All members are ghosts; each command has an implementation of
+/// its own.
 pub trait ColorSpec {
     ghost use Rattle.std.specs.Prelude.{ℕ, List, Option};
     ghost use Rattle.rv_terminal.specs.declared.colors.Colors.{Colors};
@@ -27,8 +28,8 @@ impl ColorSpec for Brand {
     ghost before = { None };
 }
 
-/// A sink that passes results on to another sink, coloured or as they are. Contracts describe the uncoloured output. After a failed write
-/// with colours, each further write fails, because part of an escape sequence may have been written.
+/// A sink that passes results on to another sink, with colors or without. Contracts describe the output without colors. After a write with
+/// colors has failed, each further write fails, because a part of an escape sequence may have been written.
 #[derive(Drop)]
 pub struct ColorSink<J: ColorSpec, S: Sink + Drop> {
     sink: S,
@@ -49,7 +50,7 @@ impl<J: ColorSpec, S: Sink + Drop> Model for ColorSink<J, S> {
 }
 
 impl<J: ColorSpec, S: Sink + Drop> ColorSink<J, S> {
-    /// Creates a sink over another sink, at the start of a line.
+    /// Creates a sink that writes to another sink, which is at the start of a line.
     pub fn new(sink: S, colors: Colors) -> ColorSink<J, S>
         requires colors { colors ≡ J.colors }
         requires before { S.accepted sink ≡ J.before }
@@ -66,8 +67,7 @@ impl<J: ColorSpec, S: Sink + Drop> ColorSink<J, S> {
         }
     }
 
-    /// Returns the underlying sink, and an error if the results are coloured and a write to it failed, so that it did not receive them
-    /// completely.
+    /// Returns the underlying sink, and an error if a write with colors has failed, so that it did not receive the results completely.
     pub fn finish(self) -> (S, Result<(), SinkFailed>)
         ensures sink { result.0 ≡ self.sink }
         ensures error_if_failed { is_err result.1 ≡ has_failed self.state }
@@ -98,7 +98,7 @@ impl<J: ColorSpec, S: Sink + Drop> Sink for ColorSink<J, S> {
 
     ghost failure_count = { λ s. s.failures };
 
-    // Writes leading bytes of `bytes`, in their colours if colours are on, and returns how many; an error if the write failed.
+    // Writes some leading bytes of `bytes`, with colors if they are on, and returns their number, or an error if the write failed.
     fn put(&mut self, bytes: &[u8]) -> Result<usize, SinkFailed> {
         let (count, state) = write_in_state(&mut self.sink, self.state, bytes);
         self.state = state;

@@ -1,6 +1,6 @@
-//! Whether results are coloured.
+//! Whether results are colored.
 
-/// Whether results are coloured.
+/// Whether results are colored.
 #[derive(Clone, Copy, Debug, PartialEq, Eq)]
 pub enum Colors {
     Plain,

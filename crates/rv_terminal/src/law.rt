@@ -1,11 +1,11 @@
-//! A law about colours; it is not executed.
+//! A law of colors. It is proved and not executed.
 
 ghost use Rattle.std.specs.Prelude.{◌≡◌, ℕ, List};
 ghost use Rattle.rv_terminal.specs.Colors.{InText, colored, uncolored};
 ghost use Rattle.rv_terminal.specs.declared.line_position.LinePosition.{LinePosition};
 
-/// Removing the marks from a coloured text returns the plain text, whatever the position in a line at which the text begins. So two
-/// different texts are also different with their colours.
+/// Proves that removing the escape sequences from a colored text gives the text again, at whatever position in a line the text begins. So
+/// different texts remain different with colors.
 pub fn colors_can_be_taken_out()
     ensures { (position : LinePosition) (text : List ℕ) → uncolored InText (colored position text) ≡ text }
 {}

@@ -1,7 +1,8 @@
-//! What a terminal shows besides the text itself: colours of results, and the line that shows how many jobs are done.
+//! What a terminal shows beside the results: their colors, and a line with the number of jobs done.
 //!
-//! A [`ColorSink`] passes results on to another sink, with a terminal's escape sequences or as they are ([`Colors`]). Contracts describe
-//! the uncoloured output in both cases. Removing the marks from a coloured text gives the text again ([`colors_can_be_taken_out`]).
+//! A [`ColorSink`] passes results on to another sink, with a terminal's escape sequences or without ([`Colors`]). Contracts describe the
+//! output without colors in both cases. Removing the escape sequences from a colored text gives the text again
+//! ([`colors_can_be_taken_out`]).
 //!
 //! A [`Progress`] counts rows and shows the counts in one line, which is redrawn in place. A [`ProgressReporter`] counts each row that it
 //! reports. A [`TerminalSink`] removes the line before other output goes to the same terminal, and shows it again afterwards.

@@ -1,40 +1,40 @@
-//! Where colours begin and end in the lines of results.
+//! Where colors begin and end in a line of results.
 
 ghost use Rattle.std.specs.Prelude.{◌≡◌, fold};
 ghost use Rattle.rv_terminal.specs.Colors.{margin_mark, position_after_first, is_empty, line_mark, mark_before, mark_text, position_after};
 ghost use Rattle.rv_terminal.specs.Colors.{position_in_line, sign_mark, word_mark};
 
-/// The escape sequence that is sent to a terminal before a byte, if any.
+/// The change of color before a byte, for which the terminal gets an escape sequence.
 #[derive(Clone, Copy)]
 pub(crate) enum Mark {
     Nothing,
     Red,
     Green,
-    /// Resets the colours.
+    /// Back to the default color.
     End,
 }
 
-/// The position of a byte of results in its line.
+/// The position in a line of results, on which the colors depend.
 #[derive(Clone, Copy)]
 pub(crate) enum LinePosition {
-    /// After this many spaces at the start of the line: at most five.
+    /// After this many spaces at the start of a line, at most five.
     Margin(u8),
-    /// In the first word, which is coloured.
+    /// In the first word of a line, if it is colored.
     Word,
-    /// In a line that is coloured up to its end.
+    /// In a line that is colored up to its end.
     Line,
-    /// In the rest of a line, which is not coloured.
+    /// In the part of a line that is not colored.
     Rest,
 }
 
-// The number of spaces before expected and actual results.
+// The number of spaces before the signs of expected and actual results.
 const MARGIN: u8 = 5;
 
 // The first byte of a terminal's escape sequences.
 const ESCAPE: u8 = 0x1b;
 
 impl Mark {
-    /// Returns the escape sequence of the terminal for this mark; empty for `Nothing`.
+    /// Returns the escape sequence for this change of color; empty for `Nothing`.
     pub(crate) fn text(self) -> &'static str
         ensures { result.now ≡ mark_text self }
     {
@@ -46,7 +46,7 @@ impl Mark {
         }
     }
 
-    /// Whether the mark has no escape sequence.
+    /// Whether there is no change of color.
     pub(crate) fn is_empty(self) -> bool
         ensures { result ≡ is_empty self }
     {
@@ -55,7 +55,7 @@ impl Mark {
 }
 
 impl LinePosition {
-    /// Returns the mark before a byte at this position.
+    /// Returns the change of color before a byte at this position.
     pub(crate) fn mark_before(self, byte: u8) -> Mark
         ensures { result ≡ mark_before self byte }
     {
@@ -66,7 +66,7 @@ impl LinePosition {
         }
     }
 
-    // Returns the mark before a byte at this position that does not begin an escape sequence.
+    // Returns the change of color before a byte at this position that does not begin an escape sequence.
     fn line_mark(self, byte: u8) -> Mark
         ensures { result ≡ line_mark self byte }
     {
@@ -107,7 +107,7 @@ impl LinePosition {
         }
     }
 
-    /// Returns the position after these bytes, the first of which is at this position.
+    /// Returns the position after these bytes, if the first of them is at this position.
     pub(crate) fn after_bytes(self, bytes: &[u8]) -> LinePosition
         ensures { result ≡ fold position_after self bytes.now }
     {
@@ -119,7 +119,7 @@ impl LinePosition {
     }
 }
 
-// Returns the mark before the first byte after the spaces at the beginning of a line, given how many spaces there are.
+// Returns the change of color before the first byte of a line that is not a space; `spaces` is the number of spaces before it.
 fn margin_mark(spaces: u8, byte: u8) -> Mark
     ensures { result ≡ margin_mark spaces byte }
 {
@@ -132,7 +132,7 @@ fn margin_mark(spaces: u8, byte: u8) -> Mark
     }
 }
 
-// Returns the mark before the first byte of a line that begins without spaces.
+// Returns the change of color before the first byte of a line that does not begin with spaces.
 fn word_mark(byte: u8) -> Mark
     ensures { result ≡ word_mark byte }
 {
@@ -143,7 +143,7 @@ fn word_mark(byte: u8) -> Mark
     }
 }
 
-// Returns red before a minus, green before a plus, and no mark before any other byte.
+// Returns red before a minus, green before a plus, and no change before any other byte.
 fn sign_mark(byte: u8) -> Mark
     ensures { result ≡ sign_mark byte }
 {
@@ -154,7 +154,7 @@ fn sign_mark(byte: u8) -> Mark
     }
 }
 
-// Returns the position after the first byte of a line that is not a space, given how many spaces are before it.
+// Returns the position after the first byte of a line that is not a space; `spaces` is the number of spaces before it.
 fn position_after_first(spaces: u8, byte: u8) -> LinePosition
     ensures { result ≡ position_after_first spaces byte }
 {

@@ -1,4 +1,4 @@
-//! The state of a coloured output between writes.
+//! The state of an output between two writes.
 
 ghost use Rattle.std.specs.Prelude.{◌≡◌, ◌≤◌, ◌<◌, ◌++◌, ℕ, IfErr, IfOk, length, slice_index, take};
 ghost use Rattle.std.specs.Io.KnownBytes.{Appends};
@@ -12,19 +12,19 @@ use crate::colors::Colors;
 use crate::line_position::LinePosition;
 use rv_rows::{Sink, SinkFailed, put_all};
 
-/// How the output continues.
+/// How an output continues.
 #[derive(Clone, Copy)]
 pub(crate) enum OutputState {
-    /// Without colours.
+    /// Without colors.
     Plain,
-    /// With colours, from this position in a line on.
+    /// With colors, at this position in a line.
     Colored(LinePosition),
-    /// Not at all: a write failed, and part of an escape sequence may have been written.
+    /// Not at all: a write with colors has failed, and a part of an escape sequence may have been written.
     Failed,
 }
 
 impl OutputState {
-    /// Returns the state in which output with or without colours begins: at the start of a line.
+    /// Returns the initial state of an output: at the start of a line.
     pub(crate) fn first(colors: Colors) -> OutputState
         ensures { result ≡ first_state colors }
     {
@@ -34,7 +34,7 @@ impl OutputState {
         }
     }
 
-    /// Whether the output has ended because a write failed.
+    /// Whether the output has ended because a write with colors has failed.
     pub(crate) fn has_failed(self) -> bool
         ensures { result ≡ has_failed self }
     {
@@ -42,7 +42,7 @@ impl OutputState {
     }
 }
 
-/// Writes leading bytes of `bytes`, with their marks if the output is coloured. Returns how many were written, which is 0 only if a write
+/// Writes some leading bytes of `bytes`, with escape sequences if the output is colored. Returns their number, which is 0 only if a write
 /// failed, and the new state of the output.
 pub(crate) fn write_in_state<S: Sink>(
     sink: &mut S,
@@ -64,7 +64,7 @@ pub(crate) fn write_in_state<S: Sink>(
     }
 }
 
-// Writes the bytes with their marks, piece by piece, until all are written or a write fails. Returns how many were written, and the new
+// Writes the bytes with their escape sequences, until all are written or a write fails. Returns how many bytes were written, and the new
 // state of the output.
 fn write_colored<S: Sink>(
     sink: &mut S,
@@ -91,7 +91,8 @@ fn write_colored<S: Sink>(
     (at, OutputState::Colored(here))
 }
 
-// Writes the mark before the first byte, and then leading bytes up to the next mark. Returns how many bytes were written.
+// Writes the escape sequence before the first byte, if it has one, and then bytes up to the next change of color. Returns how many bytes
+// were written.
 fn write_span<S: Sink>(
     sink: &mut S,
     position: LinePosition,
@@ -110,7 +111,7 @@ fn write_span<S: Sink>(
     sink.put(&bytes[..span_len(position, bytes)])
 }
 
-// Returns the number of leading bytes that have no mark between them. There may be a mark before the first byte.
+// Returns the number of leading bytes with no change of color between them. There may be one before the first byte.
 fn span_len(position: LinePosition, bytes: &[u8]) -> usize
     requires { 0 < length bytes.now }
     ensures within { (1 ≤ result) × (result ≤ length bytes.now) }

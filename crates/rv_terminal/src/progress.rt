@@ -1,4 +1,4 @@
-//! How many jobs are done and failed, and the line that shows it.
+//! The progress of a run: how many jobs are done and how many of them failed, shown in a line.
 
 ghost use Rattle.std.specs.Prelude.{◌≡◌, ◌++◌, ◌+◌, ◌-◌, ◌∷◌, ◌^◌, ◌<◌, ◌≤◌, [], List, length};
 ghost use Rattle.rv_terminal.specs.Tallies.{IsTallyOf};
@@ -15,24 +15,24 @@ use std::sync::atomic::{AtomicU64, Ordering};
 use std::sync::{Mutex, MutexGuard, Wait};
 use std::time::Clock;
 
-/// How many jobs of a run are done and failed, and a terminal that shows it in one line. Workers share it.
+/// How many jobs of a run are done and how many of them failed, shown in a line on a terminal. It is shared by the workers.
 #[derive(Drop)]
 pub struct Progress<'k, W: Drop> {
     jobs: u64,
     judge: Judge<'k>,
     is_terminal: bool,
-    // It has a lock of its own so that counting does not wait for the terminal.
+    // It has its own lock, so that counting need not wait for the terminal.
     tally: Mutex<Tally>,
-    // The time at which the run began, in tenths of a second of the clock.
+    // When the run began, in tenths of a second of the clock.
     start: u64,
-    // The time at which the line was last shown, in tenths of a second after that.
+    // When the line was last shown, in tenths of a second after `start`.
     shown: AtomicU64,
     line: Mutex<Line<W>>,
 }
 
 impl<'k, W: Write + Drop> Progress<'k, W> {
-    /// Creates the progress of a run of `jobs` jobs, whose rows are judged by `judge`. If `out` is a terminal, the progress line is shown
-    /// on it, but not before the clock's next tenth of a second, so that a very short run shows none.
+    /// Creates the progress of a run of `jobs` jobs, whose rows `judge` judges. If `out` is a terminal, the progress line is shown on it
+    /// from the clock's next tenth of a second on, so that a very short run shows none.
     pub fn new<C: Clock>(
         clock: &C,
         jobs: usize,
@@ -48,7 +48,7 @@ impl<'k, W: Write + Drop> Progress<'k, W> {
         Progress::from_start(start, jobs, judge, out, is_terminal)
     }
 
-    // Creates the progress of a run that begins at `start`, in tenths of a second of the clock.
+    // Creates the progress of a run that began at `start`, in tenths of a second of the clock.
     fn from_start(
         start: u64,
         jobs: usize,
@@ -87,8 +87,8 @@ impl<'k, W: Write + Drop> Progress<'k, W> {
         out
     }
 
-    /// Counts a row if the line is on a terminal. The counts are shown at most once in a tenth of a second, and only if no other thread
-    /// writes to the terminal.
+    /// Counts a row, if the line is on a terminal. Shows the counts at most once in a tenth of a second, and only if no other thread is
+    /// writing to the terminal.
     pub(crate) fn count_row<R: Clock + Wait>(&self, rt: &R, alloc: Global, row: &Row) {
         if !self.is_terminal {
             return;
@@ -100,12 +100,12 @@ impl<'k, W: Write + Drop> Progress<'k, W> {
             return;
         }
         if let Some(mut line) = self.line.try_lock() {
-            // A failure of the terminal is ignored.
+            // A failed write to the terminal is ignored.
             let _shown = line.show_counts(alloc, self.counts_of(self.tally_so_far(rt)));
         }
     }
 
-    // Adds a row to a tally, which counts it as failed if it fails by the judge of the run.
+    // Adds a row to a tally, as a failure if the judge of the run says so.
     fn count_in_tally(&self, tally: &mut Tally, row: &Row)
         ensures { (rows : List ARow) → length rows + 1 < 2 ^ 64 → IsTallyOf (judge_view self.now.judge) rows tally.old
             → IsTallyOf (judge_view self.now.judge) (rows ++ row.now ∷ []) tally.new }
@@ -113,8 +113,8 @@ impl<'k, W: Write + Drop> Progress<'k, W> {
         tally.count_row(&self.judge, row);
     }
 
-    // Whether the caller may show the line: true once in each tenth of a second after the first one of the run, for only one of several
-    // threads; false if the clock cannot be read.
+    // Whether the caller may show the line: in each tenth of a second after the first, this is true for one call only. False if the clock
+    // cannot be read.
     fn claim_line_turn<C: Clock>(&self, clock: &C) -> bool {
         match clock_tenths(clock) {
             Some(now) => {
@@ -125,15 +125,14 @@ impl<'k, W: Write + Drop> Progress<'k, W> {
         }
     }
 
-    // Returns the number of tenths of a second from the start of the run to `now`; 0 if the clock went back.
+    // Returns the tenths of a second from the start of the run to `now`, or 0 if the clock went back.
     fn tenths_since_start(&self, now: u64) -> u64
         ensures { result ≡ now - self.now.start }
     {
         now.saturating_sub(self.start)
     }
 
-    /// Returns the tally of the rows so far. Since the tally is in a lock, the contract can only say that at most as many rows failed as
-    /// are finished.
+    /// Returns the tally of the rows so far. As the tally is in a lock, the contract can only say that no more rows failed than are done.
     pub(crate) fn tally_so_far<R: Wait>(&self, rt: &R) -> Tally
         ensures { result.failed ≤ result.done }
     {
@@ -156,7 +155,7 @@ impl<'k, W: Write + Drop> Progress<'k, W> {
         self.line.lock(rt)
     }
 
-    /// Whether the line can be shown: its output is a terminal.
+    /// Whether the output is a terminal, so that the line can be shown.
     pub(crate) fn is_terminal(&self) -> bool
         ensures { result ≡ self.now.is_terminal }
     {
@@ -164,7 +163,7 @@ impl<'k, W: Write + Drop> Progress<'k, W> {
     }
 }
 
-// Returns the clock's time in tenths of a second; `None` if the clock cannot be read.
+// Returns the clock's time in tenths of a second, or `None` if the clock cannot be read.
 fn clock_tenths<C: Clock>(clock: &C) -> Option<u64> {
     match clock.monotonic() {
         Ok(time) => {

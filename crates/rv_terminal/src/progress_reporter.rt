@@ -1,4 +1,4 @@
-//! A reporter that counts.
+//! A reporter that counts rows.
 
 ghost use Rattle.std.specs.Prelude.{◌≡◌};
 
@@ -9,7 +9,7 @@ use std::io::Write;
 use std::sync::Wait;
 use std::time::Clock;
 
-/// Reports rows by another reporter, and counts each row that is reported.
+/// Reports rows as another reporter does, and counts each of them.
 #[derive(Drop)]
 pub struct ProgressReporter<'r, 't, 'p, 'k, R: Clock + Wait, T: RowReporter, W: Drop> {
     rt: &'r R,
@@ -26,7 +26,7 @@ impl<'r, 't, 'p, 'k, R: Clock + Wait, T: RowReporter, W: Write + Drop> ProgressR
     T,
     W,
 > {
-    /// Creates a reporter that writes the texts of `reporter` and counts the rows in `progress`.
+    /// Creates a reporter that makes the texts of `reporter`, and counts the rows in `progress`.
     pub fn new(
         rt: &'r R,
         reporter: &'t T,
@@ -46,7 +46,7 @@ impl<'r, 't, 'p, 'k, R: Clock + Wait, T: RowReporter, W: Write + Drop> RowReport
     for ProgressReporter<'r, 't, 'p, 'k, R, T, W> {
     ghost line = { λ counting index row. T.line counting.reporter.now index row };
 
-    // Appends the text of the other reporter about the job at an index, and counts its row in the progress.
+    // Appends the other reporter's text of the row of the job at an index, and counts the row.
     fn push_row_text(
         &self,
         alloc: Global,

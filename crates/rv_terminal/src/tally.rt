@@ -1,4 +1,4 @@
-//! Counting of rows.
+//! Counting rows.
 
 ghost use Rattle.std.specs.Prelude.{◌++◌, ◌+◌, ◌∷◌, ◌^◌, ◌<◌, [], List, length};
 ghost use Rattle.rv_terminal.specs.Tallies.{IsTallyOf};
@@ -17,7 +17,7 @@ impl Tally {
         Tally { done: 0, failed: 0 }
     }
 
-    /// Counts one more row, and also counts it as failed if the judge says so.
+    /// Counts a row, as a failure if the judge says so.
     pub(crate) fn count_row(&mut self, judge: &Judge<'_>, row: &Row)
         ensures { (rows : List ARow) → length rows + 1 < 2 ^ 64 → IsTallyOf (judge_view judge.now) rows self.old
             → IsTallyOf (judge_view judge.now) (rows ++ row.now ∷ []) self.new }

@@ -2,11 +2,11 @@
 
 ghost use Rattle.std.specs.Prelude.{◌≤◌};
 
-/// The number of rows, and of those that count as failures.
+/// The number of rows, and how many of them are failures.
 #[derive(Clone, Copy)]
 pub(crate) struct Tally {
     pub(crate) done: u64,
     pub(crate) failed: u64,
-    // It holds whenever the lock of a progress is acquired.
+    // This holds whenever a thread acquires the lock of a progress.
     ghost within: { failed ≤ done },
 }

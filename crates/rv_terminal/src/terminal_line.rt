@@ -1,4 +1,4 @@
-//! A line on a terminal.
+//! The progress line on a terminal.
 
 ghost use Rattle.std.specs.Prelude.{◌≡◌, ◌++◌, ◌||◌, IsTrue, OnOk, false, not};
 ghost use Rattle.std.specs.Io.KnownBytes.{Appends};
@@ -9,27 +9,27 @@ use rv_rows::{Span, WriteError, push_spans};
 use std::alloc::{AllocError, Global};
 use std::io::Write;
 
-/// The counts that the line shows: how many jobs are done and failed, and how many the run has.
+/// The counts that the line shows: how many jobs are done, how many of them failed, and how many the run has.
 #[derive(Clone, Copy)]
 pub(crate) struct Counts {
     pub(crate) tally: Tally,
     pub(crate) jobs: u64,
 }
 
-// A return to the start of the line, and an erase to its end.
+// Moves to the start of the line, and erases the line.
 const CLEAR: &[u8] = b"\r\x1b[K";
 
-/// A line on a terminal that is redrawn in place. Each call returns whether the terminal accepted all of it.
+/// A line on a terminal that is redrawn in place. Each call says whether the terminal accepted all bytes.
 #[derive(Drop)]
 pub(crate) struct Line<W: Drop> {
     out: W,
     is_shown: bool,
-    // Other output on the terminal ends in the middle of a line.
+    // Whether other output on the terminal ends in the middle of a line.
     is_blocked: bool,
 }
 
 impl<W: Write + Drop> Line<W> {
-    /// Creates a line on a terminal that shows nothing yet.
+    /// Creates a line that is not shown yet.
     pub(crate) fn new(out: W) -> Line<W>
         ensures out { result.out ≡ out }
         ensures shown { result.is_shown ≡ false }
@@ -52,10 +52,10 @@ impl<W: Write + Drop> Line<W> {
         (line.out, erased)
     }
 
-    /// Writes the counts over the earlier ones, unless other output ends in the middle of a line. New counts never have fewer digits than
+    /// Shows the counts in place of earlier ones, unless other output ends in the middle of a line. Counts only grow, so they cover the
     /// earlier ones.
     pub(crate) fn show_counts(&mut self, alloc: Global, counts: Counts) -> Result<(), WriteError>
-        // In the middle of a line of other output, nothing is written.
+        // If other output ends in the middle of a line, nothing is written.
         ensures unchanged { IsTrue self.old.is_blocked → self.new ≡ self.old }
         ensures blocked { self.new.is_blocked ≡ self.old.is_blocked }
         ensures shown { OnOk result (self.new.is_shown ≡ (self.old.is_shown || not self.old.is_blocked)) }
@@ -78,7 +78,7 @@ impl<W: Write + Drop> Line<W> {
         self.is_shown
     }
 
-    /// Removes the line if it is shown; returns an error if the terminal did not accept all bytes.
+    /// Removes the line if it is shown. Returns an error if the terminal did not accept all bytes.
     pub(crate) fn remove(&mut self) -> Result<(), WriteError>
         ensures removed { self.new.is_shown ≡ false }
         ensures blocked { self.new.is_blocked ≡ self.old.is_blocked }
@@ -92,8 +92,8 @@ impl<W: Write + Drop> Line<W> {
         self.write_and_flush(CLEAR)
     }
 
-    /// Records that `text`, which is other output, was written to the terminal. Until such output ends with a line feed, no progress line
-    /// is shown.
+    /// Records that other output, `text`, was written to the terminal. The progress line is not shown while such output ends in the middle
+    /// of a line.
     pub(crate) fn record_other_text(&mut self, text: &[u8])
         ensures blocked { self.new.is_blocked ≡ is_mid_line self.old.is_blocked (last_byte text.now) }
         ensures shown { self.new.is_shown ≡ self.old.is_shown }
@@ -104,7 +104,7 @@ impl<W: Write + Drop> Line<W> {
         }
     }
 
-    // Writes bytes to the terminal and flushes it; returns an error if either fails.
+    // Writes bytes to the terminal and flushes it. Returns an error if either fails.
     fn write_and_flush(&mut self, bytes: &[u8]) -> Result<(), WriteError>
         ensures shown { self.new.is_shown ≡ self.old.is_shown }
         ensures blocked { self.new.is_blocked ≡ self.old.is_blocked }
@@ -120,7 +120,7 @@ impl<W: Write + Drop> Line<W> {
     }
 }
 
-// Appends the bytes that show the line: a carriage return, and the counts.
+// Appends the bytes that show the line: a carriage return and the counts.
 fn push_progress_text(text: &mut Vec<u8>, counts: Counts) -> Result<(), AllocError>
     ensures { OnOk result (text.new.items
         ≡ text.old.items ++ counts_text counts.tally.done counts.jobs counts.tally.failed) }

@@ -1,4 +1,4 @@
-//! A sink to the terminal that shows the progress line.
+//! A sink for output to the terminal with the progress line.
 
 ghost use Rattle.std.specs.Prelude.{◌≡◌, ◌↔◌, ◌≤◌, ◌<◌, ◌&&◌, IfErr, IfOk, IfSome, IsSome, IsTrue, MatchResult, OnOk, false, length, not, take};
 ghost use Rattle.std.specs.Io.KnownBytes.{Appends, Keeps};
@@ -13,20 +13,20 @@ use std::alloc::Global;
 use std::io::Write;
 use std::sync::Wait;
 
-/// A sink that writes to the terminal that shows the line of a [`Progress`]: the line is removed before each write, and shown again after
-/// output that ends with a line feed.
+/// A sink for output to a terminal that may also show the line of a [`Progress`]. The line is removed before each write, and shown again
+/// after output that ends with a line feed.
 #[derive(Drop)]
 pub struct TerminalSink<'a, 'k, R: Wait, S: Sink + Drop, W: Drop> {
     rt: &'a R,
     alloc: Global,
     sink: S,
-    // `None` if there is no line to remove.
+    // `None` if the line is not on the terminal of this sink.
     progress: Option<&'a Progress<'k, W>>,
 }
 
 impl<'a, 'k, R: Wait, S: Sink + Drop, W: Write + Drop> TerminalSink<'a, 'k, R, S, W> {
-    /// Creates a sink that writes to `sink`; `is_terminal` says whether `sink` is a terminal. If it is and the progress line is shown
-    /// there, the line is removed during each write.
+    /// Creates a sink that writes to `sink`. If `is_terminal` says that `sink` is a terminal, and `progress` shows its line on a terminal,
+    /// the line is removed for each write.
     pub fn new(
         rt: &'a R,
         alloc: Global,
@@ -51,7 +51,7 @@ impl<'a, 'k, R: Wait, S: Sink + Drop, W: Write + Drop> TerminalSink<'a, 'k, R, S
         }
     }
 
-    /// Returns the sink that this one writes to.
+    /// Returns the underlying sink.
     pub fn into_inner(self) -> S
         ensures { result ≡ self.entry.sink }
     {
@@ -64,15 +64,15 @@ impl<'a, 'k, R: Wait, S: Sink + Drop, W: Write + Drop> Sink for TerminalSink<'a,
 
     ghost failure_count = { λ terminal. S.failure_count terminal.sink };
 
-    // Writes leading bytes of `bytes` to the sink, and returns how many; the progress line is removed during the write if it is on the same
-    // terminal.
+    // Writes some leading bytes of `bytes` to the sink, and returns their number. If the progress line is on the same terminal, it is
+    // removed for the write.
     fn put(&mut self, bytes: &[u8]) -> Result<usize, SinkFailed> {
         let Some(progress) = self.progress else {
             return self.sink.put(bytes);
         };
         let mut line = progress.lock_line(self.rt);
         let tally = progress.tally_so_far(self.rt);
-        // A failure of the terminal to accept the line is ignored.
+        // If the terminal does not accept the line, this is ignored.
         self.write_around_line(progress, &mut line, bytes, tally)
             .put
     }
@@ -84,7 +84,7 @@ impl<'a, 'k, R: Wait, S: Sink + Drop, W: Write + Drop> Sink for TerminalSink<'a,
 }
 
 impl<'a, 'k, R: Wait, S: Sink + Drop, W: Write + Drop> TerminalSink<'a, 'k, R, S, W> {
-    // Writes bytes to the sink: the line is removed before the write, and shown again with this tally afterwards.
+    // Writes bytes to the sink. The line is removed before, and shown again afterwards with this tally.
     fn write_around_line(
         &mut self,
         progress: &Progress<'k, W>,
@@ -112,15 +112,15 @@ impl<'a, 'k, R: Wait, S: Sink + Drop, W: Write + Drop> TerminalSink<'a, 'k, R, S
     }
 }
 
-// The result of a write to a sink on the line's terminal, and whether that terminal accepted the line.
+// The result of a write to a sink, and whether the terminal accepted the changes of the line around it.
 #[derive(Drop)]
 struct BesideLineResult {
     put: Result<usize, SinkFailed>,
     line: Result<(), WriteError>,
 }
 
-// Writes bytes to a sink on the line's terminal: the line is removed before the write, and shown again afterwards if the output ends with a
-// line feed.
+// Writes bytes to a sink on the terminal of the line. The line is removed before, and shown again afterwards if the output ends with a line
+// feed.
 fn write_beside_line<S: Sink, W: Write + Drop>(
     line: &mut Line<W>,
     sink: &mut S,
@@ -158,8 +158,7 @@ fn write_beside_line<S: Sink, W: Write + Drop>(
     }
 }
 
-// Writes bytes to a sink on the terminal, from which the line has been removed, and records whether the output ends in the middle of a
-// line.
+// Writes bytes to a sink on the terminal of the line, which is not shown, and records whether the output ends in the middle of a line.
 fn write_and_record<S: Sink, W: Write + Drop>(
     line: &mut Line<W>,
     sink: &mut S,

@@ -33,20 +33,20 @@ access_of op.Sh = access.Store width.Half
 access_of op.Sw = access.Store width.Word
 access_of _ = access.Neither
 
--- the target that the instruction `i` writes in the state `s`: a load writes a register, from its address; a store writes the low bytes of
--- rs2 to its address; any other instruction writes rd, unless it is x0
+-- what the instruction `i` is going to write in the state `s`: a load writes rd from its address; a store writes the low bytes of rs2 to
+-- its address; any other instruction writes rd, unless that is x0
 abbrev pub instruction_write_target : Access → Instr → State → WriteTarget
 instruction_write_target access.Load i s = target.Load i.rd (address s i)
 instruction_write_target (access.Store width) i s =
     target.Store (address s i) width (rs2_value s i % 2 ^ (8 * size_of width))
 instruction_write_target access.Neither i s = if i.rd == 0 then target.Nothing else target.Register i.rd
 
--- the target that an instruction writes in the state `s`; `Nothing` if there is no instruction
+-- what an instruction is going to write in the state `s`; `Nothing` if there is no instruction
 abbrev pub write_target : Option Instr → State → WriteTarget
 write_target None s = target.Nothing
 write_target (Some i) s = instruction_write_target (access_of i.op) i s
 
--- the number of the register to be written, if there is one, is below 32
+-- the number of the register that will be written, if there is one, is below 32
 abbrev pub HasRegister : WriteTarget → Type 0
 HasRegister (target.Register number) = number < 32
 HasRegister (target.Load number address) = number < 32
@@ -76,13 +76,13 @@ traced_step s t = record {
 
 -- ---- several instructions
 
--- the traced instruction at the state `s` and the instructions after it, which `later_steps` returns for the new state; empty if the
--- instruction does not complete
+-- the traced instruction at the state `s`, followed by `later_steps` of the state after it; empty if the instruction did not complete; the
+-- first argument is the result of the step from `s`
 abbrev pub step_then : Result State Ending → State → (State → List TracedStep) → List TracedStep
 step_then (Ok t) s later_steps = traced_step s t ∷ later_steps t
 step_then (Err e) s later_steps = []
 
--- the completed instructions among the first `n` steps from the state `s`, as a trace shows them
+-- the first `n` instructions executed from the state `s`, as a trace shows them, up to the first that does not complete
 unfoldable pub steps_from : ℕ → State → List TracedStep
 steps_from zero s = []
 steps_from (suc n) s = step_then (step_of s) s (λ t. steps_from n t)

@@ -1,4 +1,4 @@
--- The text of a trace: where the run ended, the registers there, and a line for each instruction.
+-- The text of a trace: the address where the run ended, the registers there, and a line for each instruction.
 use Rattle.std.specs.Prelude.{◌==◌, ◌+◌, ◌-◌, ℕ, Bool, true, false, List, [], ◌∷◌, ◌++◌, codes, drop}
 use Rattle.std.specs.Prelude.{if◌then◌else◌, length, replicate, Option, Some, None}
 use Rattle.std.specs.List.{flat_map}
@@ -88,7 +88,7 @@ write_effect_text image file (write.Loaded number value address) =
 write_effect_text image file (write.Stored address width value) =
     address_text image file address ++ codes " <- " ++ stored_value_text width value
 
--- the assembly text, and in the next column `effect_text`, the text about its effect, unless that is empty
+-- the columns of the assembly text and of `effect_text`, the text about the effect; the second column is left out if `effect_text` is empty
 abbrev pub text_columns : List ℕ → List ℕ → List ℕ
 text_columns text effect_text = if length effect_text == 0 then text else padded_text 24 text ++ gap ++ effect_text
 
@@ -117,7 +117,8 @@ step_line image file step =
 
 -- ---- the end
 
--- the text about the value of a fault of this kind, which for most kinds is an address
+-- the value of a fault of this kind, with the words before it: ` at ` before an address, `, value ` before another value; illegal
+-- instructions and breakpoints have no such text
 unfoldable pub fault_value_text : FaultKind → ℕ → List ℕ
 fault_value_text fault.Illegal value = []
 fault_value_text fault.Breakpoint value = []

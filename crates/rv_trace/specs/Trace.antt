@@ -38,15 +38,15 @@ trace_up_to steps s = record {
   registers = registers_of s;
 }
 
--- the trace of a run that begins in the state `s` and completes this many steps: the last `max_steps` instructions, or all if there are
--- fewer, and the state after them
+-- the trace of a run from the state `s`, of which `steps` steps complete: the last `max_steps` instructions, or all if there are fewer, and
+-- the state after them
 unfoldable pub trace_of : ℕ → ℕ → State → Trace
 trace_of steps max_steps s =
     let shown = min steps max_steps in
     let t = state_after (steps - shown) s in
     trace_up_to (steps_from shown t) (state_after shown t)
 
--- the trace of the run of a plan's job that completes this many steps, or `None` if the job is refused
+-- the trace of a job's run, of which `steps` steps complete, with at most `max_steps` instructions; `None` if the job is refused
 unfoldable pub trace_in : PlanView → Job → ℕ → ℕ → Option Trace
 trace_in plan job steps max_steps =
     option_map (trace_of steps max_steps) (result_ok (start_state_in plan.results job))

@@ -26,7 +26,7 @@ pub fn code_at(bus: &Bus, pc: u32) -> Option<Code>
     Some(Code::Word(u32::from(low) + 0x1_0000 * u32::from(high)))
 }
 
-/// Returns the instruction of an encoding in RV32IMC, or `None` if it has none.
+/// Returns the instruction of an encoding in RV32IMC, or `None` if the encoding is illegal there.
 pub fn instr_of(code: Code) -> Option<Instr>
     ensures value { result ≡ instr_of code }
     ensures well_formed { IfSome result IsWellFormed }

@@ -15,19 +15,19 @@ pub(crate) const GAP: &str = "  ";
 /// The indentation of each line.
 pub(crate) const MARGIN: &str = "     ";
 
-/// An instruction's address and what its line shows.
+/// The contents of an instruction's line.
 #[derive(Clone, Copy)]
 pub(crate) struct InstructionLine<'a> {
     pub symbol: Option<SymbolAt<'a>>,
     pub pc: u32,
     pub code: Option<Code>,
-    /// Its assembly text.
+    /// The assembly text.
     pub text: &'a [u8],
-    /// Its effect.
+    /// The text that says what the instruction wrote or how it ended the run.
     pub effect_text: &'a [u8],
 }
 
-/// Appends the line of an instruction.
+/// Appends the line of an instruction: address, symbol, encoding, assembly text and effect, in columns.
 #[tactic(auto, unfolding(crate::specs::Text::instruction_line))]
 pub(crate) fn push_instruction_line(
     alloc: Global,
@@ -48,7 +48,7 @@ pub(crate) fn push_instruction_line(
     push_text(bytes, "\n")
 }
 
-// Appends the column of the symbol, which is empty without a symbol.
+// Appends the column of the symbol, which is blank if there is no symbol.
 fn push_symbol_column(
     alloc: Global,
     bytes: &mut Vec<u8>,
@@ -64,7 +64,7 @@ fn push_symbol_column(
     push_padded_text(bytes, 20, &text)
 }
 
-// Appends the columns of the encoding, its assembly text, and its effect. Without an encoding, appends only the effect.
+// Appends the columns of the encoding, its assembly text and its effect. If there is no encoding, appends only the effect.
 #[tactic(auto, unfolding(crate::specs::Text::code_columns))]
 fn push_code_columns(
     alloc: Global,
@@ -83,7 +83,7 @@ fn push_code_columns(
     push_text_columns(bytes, text, effect_text)
 }
 
-// Appends the columns of the assembly text and, unless it is empty, of the effect. The last column is not padded.
+// Appends the columns of the assembly text and of the effect; the second is left out if the effect is empty. The last column is not padded.
 fn push_text_columns(bytes: &mut Vec<u8>, text: &[u8], effect_text: &[u8]) -> Result<(), AllocError>
     ensures { OnOk result (bytes.new.items ≡ bytes.old.items ++ text_columns text.now effect_text.now) }
 {

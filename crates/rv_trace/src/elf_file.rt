@@ -7,10 +7,10 @@ ghost use Rattle.rv_rows.specs.SymbolSearch.{symbol_at, symbol_of_value};
 use rv_machine::Isa;
 use rv_rows::{Image, SymbolAt};
 
-/// The bytes of an image's file, with the image that was read from them.
+/// The bytes of an image's file, together with the image that was parsed from them.
 #[derive(Clone, Copy)]
 pub struct ElfFile<'a> {
-    /// The instruction set that the image was read for.
+    /// The instruction set for which the file was parsed.
     pub isa: Isa,
     pub image: &'a Image,
     pub bytes: &'a [u8],

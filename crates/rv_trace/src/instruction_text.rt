@@ -16,7 +16,8 @@ use rv_rows::{RowEnd, SymbolAt};
 use rv_text::{Span, push_spans, push_symbol, push_text, push_word_digits};
 use std::alloc::{AllocError, Global};
 
-/// Appends the assembly text of an encoding at an address, or nothing if there is no encoding.
+/// Appends the assembly text of an encoding at the address `pc`, which determines the targets of jumps and branches. Appends nothing if
+/// there is no encoding.
 pub(crate) fn push_assembly(
     alloc: Global,
     bytes: &mut Vec<u8>,
@@ -31,7 +32,7 @@ pub(crate) fn push_assembly(
     }
 }
 
-// Appends the assembly text of an encoding at an address.
+// Appends the assembly text of an encoding at the address `pc`.
 #[tactic(auto, unfolding(crate::specs::Text::assembly))]
 fn push_assembly_of_code(
     alloc: Global,
@@ -157,8 +158,8 @@ fn push_stored_value(
     }
 }
 
-/// Appends the assembly text of the encoding at the end of a run, or its description if it is not an instruction of the job's set. Appends
-/// nothing if there is no encoding.
+/// Appends the assembly text of the encoding at the end of a run. If the run ended because the encoding is not an instruction of the job's
+/// set, appends a description of the encoding instead. Appends nothing if there is no encoding.
 pub(crate) fn push_end_assembly(
     alloc: Global,
     bytes: &mut Vec<u8>,
@@ -212,7 +213,8 @@ pub(crate) fn push_end_reason(bytes: &mut Vec<u8>, end: RowEnd) -> Result<(), Al
     }
 }
 
-// Appends the text about the value of a fault of this kind, which for most kinds is an address.
+// Appends the value of a fault of this kind, with the words before it: ` at ` before an address, `, value ` before another value. Illegal
+// instructions and breakpoints have no such text.
 #[tactic(auto, unfolding(crate::specs::Text::fault_value_text))]
 fn push_value_of_fault(bytes: &mut Vec<u8>, kind: FaultKind, value: u32) -> Result<(), AllocError>
     ensures { OnOk result (bytes.new.items ≡ bytes.old.items ++ fault_value_text kind value) }

@@ -10,7 +10,7 @@ use rv_machine::Isa;
 use rv_rows::{Image, ImageError, Kept, Plan, read_image};
 use std::alloc::{AllocError, Global};
 
-/// Returns the bytes of the image of the job at an index, or `None` if they were not read.
+/// Returns the contents of the image file of the job at an index, or `None` if the file was unreadable or too long.
 pub fn image_bytes(plan: &Plan, index: usize) -> Option<&[u8]>
     requires { index < length plan.now.jobs }
     ensures { (d : AJob) → option_map (λ bytes. bytes.now) result
@@ -22,7 +22,7 @@ pub fn image_bytes(plan: &Plan, index: usize) -> Option<&[u8]>
     }
 }
 
-/// Parses bytes as an image for this instruction set, and returns it, or `None` if they are not an image.
+/// Parses bytes as an image for an instruction set. Returns `None` if they are not a valid image for it.
 pub fn image_of_bytes(alloc: Global, isa: Isa, bytes: &[u8]) -> Result<Option<Image>, AllocError>
     ensures value { IfOk result (λ image. image ≡ image_if_read isa (Some bytes.now)) }
     ensures image { IfOk result (λ parsed. IfSome parsed (λ image. image_of isa bytes.now ≡ Ok image)) }

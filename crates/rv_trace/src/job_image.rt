@@ -6,7 +6,7 @@ ghost use Rattle.rv_rows.specs.Rows.{image_in};
 
 use rv_rows::{Image, Plan};
 
-/// The job at an index of a plan, with the image that was read from its file.
+/// A job of a plan, with the image that was parsed from its file.
 #[derive(Clone, Copy)]
 pub struct JobImage<'a> {
     pub plan: &'a Plan,

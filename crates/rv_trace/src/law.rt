@@ -1,4 +1,4 @@
-//! Laws on traces, with no code to run.
+//! Laws of traces. These functions are proved and have no code.
 
 ghost use Rattle.std.specs.Prelude.{◌≡◌, ℕ, Ok, false};
 ghost use Rattle.rv_machine.specs.declared_instruction.Instr.{Instr};
@@ -17,22 +17,24 @@ ghost use Rattle.rv_trace.specs.Steps.{traced_step};
 ghost use Rattle.rv_trace.specs.ShownSteps.{IsEndOfRun, IsCodeOf, ShowsEndOfRun};
 ghost use Rattle.rv_trace.specs.Trace.{trace_of};
 
-/// Proves that a trace of as many steps as a run completes shows the end of that run: the pc and the registers of its last state, and the
-/// last instructions in order, each as it was at its state. These completed, and the one at the end did not.
+/// Proves that the trace of a run's completed steps shows the end of that run: the pc and the registers of its final state, and the last
+/// instructions in order, each with the states before and after it. All of these completed; the instruction at the end did not, or the
+/// budget was used up before it.
 pub fn traces_show_the_end()
     ensures shown { (budget last : ℕ) (s : State)
         → ShowsEndOfRun (trace_of (run_of budget s).steps last s) last (run_of budget s) s }
     ensures ended { (budget : ℕ) (s : State) → IsEndOfRun (run_of budget s) s }
 {}
 
-/// Proves that a fetch in a state returns the instruction of the encoding that a trace shows for the state.
+/// Proves that if a fetch in a state returns an instruction, the encoding that a trace shows for this state has that instruction and
+/// length.
 pub fn codes_are_fetched()
     ensures { (s : State) (i : Instr) (size : ℕ) → fetch s.isa s.bus s.pc ≡ Ok (i, size)
         → (code : Code) × IsCodeOf s i size code }
 {}
 
-/// Proves that if a trace shows a store outside the console, its value is in memory after the store. The shown values of registers are
-/// correct by definition.
+/// Proves that if a trace shows a store to an address outside the console, memory has the shown value after the store. The values shown for
+/// registers are correct by definition.
 pub fn stored_values_stand()
     ensures { (s t : State) (a v : ℕ) (w : Width) → step_of s ≡ Ok t
         → (traced_step s t).write ≡ Stored a w v → touches_console a (size_of w) ≡ false

@@ -1,8 +1,9 @@
-//! The trace of a run's end: the last instructions that completed, with what each wrote, the one at the end, and the registers there.
+//! The trace of a run's end: the last instructions that completed, with what each wrote, the instruction at the end, and the registers
+//! there.
 //!
-//! Runs are deterministic, so the state before a run's last instructions is the final state of a run from the same beginning with a smaller
-//! budget. [`trace_run`] runs a machine that far, and then step by step; [`trace_job`] does so for a job of a plan whose image was read
-//! before. [`push_trace`] appends the text of a trace, with the symbols of an [`ElfFile`].
+//! Runs are deterministic, so a run with a smaller budget stops in the state before the last instructions. [`trace_run`] runs a machine up
+//! to that state, and then step by step; [`trace_job`] does so for a job of a plan whose image was parsed before. [`push_trace`] appends
+//! the text of a trace, with the symbols of an [`ElfFile`].
 #![tactic(auto)]
 
 mod code;
@@ -27,7 +28,7 @@ pub use trace::{Trace, trace_job, trace_run};
 pub use trace_lines::push_trace;
 pub use write_targets::accessed_address;
 
-// From the crates below: what this interface names, and what its callers need with it.
+// Re-exports from lower crates: the types in this interface, and what its callers need with them.
 pub use rv_machine::{
     Bus, Ending, FaultKind, Instr, Isa, Machine, Map, Misaligned, Op, Outcome, Region, Width,
     is_long,

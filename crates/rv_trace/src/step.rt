@@ -34,7 +34,7 @@ pub struct TracedStep {
 /// Completed instructions in order; contracts see them as a list.
 pub type TracedSteps = Sequence<TracedStep>;
 
-/// Executes a machine's next instruction, and returns it as a trace shows it, or `None` if it does not complete.
+/// Executes a machine's next instruction. Returns it as a trace shows it, or `None` if it does not complete; the machine is unchanged then.
 pub(crate) fn trace_next_step(machine: &mut Machine) -> Option<TracedStep>
     ensures { MatchOption result
         ((is_ok (step_of (state_of machine.old)) ≡ false)
@@ -55,8 +55,8 @@ pub(crate) fn trace_next_step(machine: &mut Machine) -> Option<TracedStep>
     })
 }
 
-// Executes a machine's next instruction, and returns whether it completed. This is a run of one step, so that the execution of an
-// instruction has a single caller in this program, too, the loop of a run, and the compiler can inline it there.
+// Executes a machine's next instruction, and returns whether it completed. It is a run of one step, so that the loop of `run` remains the
+// only caller of the function that executes an instruction, and the compiler inlines it there.
 fn execute_step(machine: &mut Machine) -> bool
     ensures { MatchBool result (step_of (state_of machine.old) ≡ Ok (state_of machine.new))
         ((is_ok (step_of (state_of machine.old)) ≡ false)

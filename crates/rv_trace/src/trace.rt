@@ -26,8 +26,8 @@ pub struct Trace {
     pub registers: [u32; 32],
 }
 
-/// Returns the trace of a run that completes `steps` steps: the last `max_steps` instructions, or all if there are fewer, and the state at
-/// the end. Takes the time of that run, and memory for each instruction shown.
+/// Returns the trace of a run of `steps` completed steps: the last `max_steps` instructions, or all if there are fewer, and the state at
+/// the end. Takes as long as that run, and memory for each instruction shown.
 #[tactic(auto, unfolding(crate::specs::Trace::trace_of))]
 pub fn trace_run(
     alloc: Global,
@@ -50,7 +50,7 @@ pub fn trace_run(
     })
 }
 
-/// Returns the trace of a job's run that completes this many steps, like [`trace_run`], or `None` if the job is refused.
+/// Returns the trace of a job's run of `steps` completed steps, as [`trace_run`] does, or `None` if the job is refused.
 #[tactic(auto, unfolding(crate::specs::Trace::trace_in))]
 pub fn trace_job(
     alloc: Global,
@@ -67,7 +67,7 @@ pub fn trace_job(
     }
 }
 
-// Executes the next `count` instructions, or those before the first that does not complete, and returns them as a trace shows them.
+// Executes the next `count` instructions, or fewer if one does not complete, and returns the completed ones as a trace shows them.
 fn trace_next_steps(
     alloc: Global,
     machine: &mut Machine,

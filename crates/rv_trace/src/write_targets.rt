@@ -1,4 +1,4 @@
-//! The targets of instructions' writes, before they are executed.
+//! What an instruction is going to write, found before it is executed.
 
 ghost use Rattle.std.specs.Prelude.{◌≡◌, ◌%◌, ◌^◌, ◌*◌};
 ghost use Rattle.rv_machine.specs.IsaWords.{IsWellFormed};
@@ -20,7 +20,7 @@ pub(crate) enum Access {
     Neither,
 }
 
-/// The target of an instruction's write, before it is executed.
+/// The register or the memory that an instruction is going to write, before it is executed.
 #[derive(Clone, Copy)]
 pub(crate) enum WriteTarget {
     Nothing,
@@ -45,7 +45,7 @@ pub(crate) fn access_of(op: Op) -> Access
     }
 }
 
-/// Returns the target that the instruction at the machine's pc, which has this encoding, is going to write.
+/// Returns what the instruction at the machine's pc is going to write. `code` is the encoding at the pc.
 pub(crate) fn write_target(machine: &Machine, code: Option<Code>) -> WriteTarget
     requires { code ≡ code_at (state_of machine.now).bus (state_of machine.now).pc }
     ensures value { result ≡ write_target (instr_at (state_of machine.now)) (state_of machine.now) }
@@ -60,7 +60,7 @@ pub(crate) fn write_target(machine: &Machine, code: Option<Code>) -> WriteTarget
     }
 }
 
-// Returns the target that an instruction is going to write in the machine's current state.
+// Returns what an instruction is going to write in the machine's current state.
 fn instruction_write_target(access: Access, instr: Instr, machine: &Machine) -> WriteTarget
     requires { IsWellFormed instr }
     ensures value { result ≡ instruction_write_target access instr (state_of machine.now) }
@@ -87,7 +87,7 @@ pub fn accessed_address(machine: &Machine, instr: Instr) -> u32
         .wrapping_add(instr.imm.cast_unsigned())
 }
 
-// Returns the low bytes of a value, as many as the width says.
+// Returns the low 8, 16 or 32 bits of a value, according to the width.
 fn low_bytes(value: u32, width: Width) -> u32
     ensures { result ≡ value % 2 ^ (8 * size_of width) }
 {
@@ -99,7 +99,7 @@ fn low_bytes(value: u32, width: Width) -> u32
 }
 
 impl WriteTarget {
-    /// Returns what the instruction wrote, given the machine after it.
+    /// Returns what the instruction wrote, given the machine after the instruction.
     pub(crate) fn completed_write(self, machine: &Machine) -> WriteEffect
         requires { HasRegister self }
         ensures { result ≡ completed_write self (state_of machine.now) }

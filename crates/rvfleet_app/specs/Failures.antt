@@ -1,4 +1,4 @@
--- What the program reports for an error of a lower layer.
+-- The program's failures for the errors of lower layers.
 use Rattle.std.specs.Prelude.{◌≡◌, Bool, true, false}
 use Rattle.rv_fleet.specs.declared_lists_error.JobError.{JobError}
 use Rattle.rvfleet_app.specs.declared.error.ListError.{ListError}
@@ -15,57 +15,56 @@ use Rattle.rvfleet_app.specs.declared.error.Failure.TheVariants as failure
 use Rattle.rvfleet_app.specs.declared.error.RunError.{RunError}
 use Rattle.rvfleet_app.specs.declared.error.RunError.TheVariants as run_error
 
--- the error with which a run ends if reading its input failed with this error
+-- the run's error for a failed read of its input
 abbrev pub input_read_failure : InputError → RunError
 input_read_failure input_error.OutOfMemory = run_error.OutOfMemory
 input_read_failure (input_error.Failed reason) = run_error.ReadFailed
 
--- the error with which a run ends if writing its report failed with this error
+-- the run's error for a failed write of its report
 abbrev pub write_failure : WriteError → RunError
 write_failure write_error.OutOfMemory = run_error.OutOfMemory
 write_failure write_error.Failed = run_error.WriteFailed
 
--- the failure of the program if running a flat image failed with this error
+-- the program's failure for an error in running a flat image
 abbrev pub run_failure : RunError → Failure
 run_failure run_error.OutOfMemory = failure.OutOfMemory
 run_failure run_error.ReadFailed = failure.ReadFailed
 run_failure run_error.WriteFailed = failure.WriteFailed
 
--- the failure of the program if computing the report of a plan failed with this error
+-- the program's failure for an error in computing the report of a plan
 abbrev pub fleet_failure : FleetError → Failure
 fleet_failure fleet_error.OutOfMemory = failure.OutOfMemory
 fleet_failure fleet_error.NoWorker = failure.NoWorker
 
--- the failure of the program if writing the report of a plan failed with this error
+-- the program's failure for a failed write of a report
 abbrev pub send_failure : WriteError → Failure
 send_failure write_error.OutOfMemory = failure.OutOfMemory
 send_failure write_error.Failed = failure.WriteFailed
 
--- whether writing a report or the help can lead to this failure
+-- whether writing a report or the help can cause this failure
 abbrev pub is_write_failure : Failure → Bool
 is_write_failure failure.OutOfMemory = true
 is_write_failure failure.WriteFailed = true
 is_write_failure _ = false
 
--- whether running a flat image, which reads the input, can lead to this failure
+-- whether running a flat image, which reads the input, can cause this failure
 abbrev pub is_raw_failure : Failure → Bool
 is_raw_failure failure.OutOfMemory = true
 is_raw_failure failure.ReadFailed = true
 is_raw_failure failure.WriteFailed = true
 is_raw_failure _ = false
 
--- whether running a job list, which uses a file and workers but not the input, can lead to this failure
+-- whether running a job list, which reads a file and starts workers, can cause this failure
 abbrev pub is_list_failure : Failure → Bool
 is_list_failure failure.ReadFailed = false
 is_list_failure _ = true
 
--- if reading a list ended with a failure, it is one that running a job list can lead to; always holds if the list has an error
+-- if reading a list ended with a failure, it is one that running a job list can cause; always true if the list is invalid
 abbrev pub IsListFailure : ListError → Type 0
 IsListFailure (Refused error) = Unit {0}
 IsListFailure (Failed failure) = is_list_failure failure ≡ true
 
--- the result of reading a list whose parser returned this error: the list is rejected because of the error, or, if memory ran out, the
--- program has a failure
+-- the error of a list that was not parsed: `Failed` if memory ran out, and otherwise `Refused` with the parser's error
 abbrev pub IsListError : JobError → ListError → Type 0
 IsListError error (Refused reported) = (reported ≡ error) × (error.what ≡ what.OutOfMemory → ⊥)
 IsListError error (Failed reported) = (reported ≡ failure.OutOfMemory) × (error.what ≡ what.OutOfMemory)

@@ -18,12 +18,12 @@ program_line text = line (codes "rvfleet: " ++ text)
 abbrev pub bad_arguments_line : List ℕ
 bad_arguments_line = program_line (codes "bad words")
 
--- the line on standard error for an error in a list: the number of the job, or 0 for the whole list, and the name of the error
+-- the line on standard error for an invalid list: the number of the job, or 0 for the list as a whole, and the name of the error
 abbrev pub fault_line : JobError → List ℕ
 fault_line error =
     program_line (codes "job " ++ decimal error.job ++ codes ": " ++ job_error_name error.what)
 
--- the description of a failure in its line on standard error
+-- the words for a failure in its line on standard error
 abbrev pub failure_name : Failure → List ℕ
 failure_name failure.OutOfMemory = codes "out of memory"
 failure_name failure.NoWorker = codes "no worker"
@@ -36,7 +36,7 @@ failure_name failure.WriteFailed = codes "write failed"
 abbrev pub failure_line : Failure → List ℕ
 failure_line failure = program_line (failure_name failure)
 
--- the whole line was written and no write failed; or one write failed, and a prefix of the line was written
+-- the whole line was written and no write failed; or a prefix of the line was written and one write failed
 unfoldable pub IsLineWritten : Option (List ℕ) → Option (List ℕ) → ℕ → ℕ → List ℕ → Type 0
 IsLineWritten before after failures_before failures_after line =
     (Appends before after line × (failures_after ≡ failures_before))

@@ -1,4 +1,4 @@
--- The lists and plans that the store may contain for the program's requests.
+-- The lists and plans that a request can lead to, depending on what the store contains.
 use Rattle.std.specs.Prelude.{◌≡◌, ℕ, List, Option, Ok, Err}
 use Rattle.rv_fleet.specs.declared_row.Row.{Row}
 use Rattle.rv_fleet.specs.Rows.{rows_of}
@@ -12,38 +12,38 @@ use Rattle.rv_fleet.specs.Kept.{AgreesWithContents}
 use Rattle.rvfleet_app.specs.declared.error.ListError.{ListError}
 use Rattle.rvfleet_app.specs.declared.error.ListError.TheVariants.{Failed, Refused}
 
--- a store's contents, if they are known, and its number of unreadable files before and after the run
+-- the contents of a store, if they are known, and its count of unreadable files before and after the run
 pub record Stored : Type 0 where
   pub contents : Option FileContents
   pub before : ℕ
   pub after : ℕ
 
--- a store with these contents, if they are known, and these numbers of unreadable files before and after the run
+-- a store with these contents, if they are known, and this count of unreadable files before and after the run
 abbrev pub stored_contents : Option FileContents → ℕ → ℕ → Stored
 stored_contents contents before after = record { contents = contents; before = before; after = after }
 
--- the plan has the jobs of `list` and, for each of their paths, a result that the store may return; each unreadable file is counted
+-- the plan has the jobs of `list` and, for each of their paths, a result that the store can return; each unreadable file was counted
 pub record IsPossiblePlan (store : Stored) (list : List Job) (plan : PlanView) : Type 0 where
   pub jobs : plan.jobs ≡ list
   pub paths : paths_of plan.results ≡ paths_used list
   pub results_agree : AgreeWithContents store.contents plan.results
   pub faults : store.after ≡ after_increments store.before (unreadable_count plan.results)
 
--- `rows` are the rows of a plan of these jobs, with results that the store may return for their paths
+-- `rows` are the rows of a plan of these jobs, with results for their paths that the store can return
 abbrev pub AreJobRows : Stored → List Job → List Row → Type 0
 AreJobRows store jobs rows = (plan : PlanView) × (IsPossiblePlan store jobs plan × (rows ≡ rows_of plan))
 
--- `jobs` are the jobs of a list that the store may have at the path
+-- `jobs` are the jobs of a list that the store can have at the path
 abbrev pub IsPossibleList : Option FileContents → List ℕ → List Job → Type 0
 IsPossibleList contents path jobs =
     (list : List ℕ) × (AgreesWithContents contents path (Content list) × (job_list_of list ≡ Ok jobs))
 
--- the store may have a list with this error at the path
+-- the store can have an invalid list with this error at the path
 abbrev pub IsPossibleListError : Option FileContents → List ℕ → JobError → Type 0
 IsPossibleListError contents path error =
     (list : List ℕ) × (AgreesWithContents contents path (Content list) × (job_list_of list ≡ Err error))
 
--- if reading a list ended because of an error in the list, the store may have a list with this error at the path
+-- if reading a list ended because the list is invalid, the store can have a list with this error at the path
 abbrev pub IsListFault : Option FileContents → List ℕ → ListError → Type 0
 IsListFault contents path (Refused error) = IsPossibleListError contents path error
 IsListFault contents path (Failed failure) = Unit {0}

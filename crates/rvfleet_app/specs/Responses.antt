@@ -21,22 +21,22 @@ use Rattle.rvfleet_app.specs.FlatImage.{AreRawRows}
 
 -- ---- rejected arguments
 
--- whether the arguments are rejected: they do not make a request, or the path or the digits of their request are invalid
+-- whether the arguments are rejected: they make no request, or the path or the digits of their request are invalid
 abbrev pub is_request_rejected : Option Request → Bool
 is_request_rejected (Some (raw budget)) = false
 is_request_rejected (Some (one path budget digits)) = is_bad_image_request path digits
 is_request_rejected (Some (run path workers group)) = is_bad_path path
 is_request_rejected None = true
 
--- the request runs the list at a path, and some contents that the store may have there are a list with this error; `contents` are the
--- store's contents, if they are known
+-- the request runs the list at a path, and the store can have an invalid list with this error there; `contents` are the store's contents,
+-- if they are known
 abbrev pub IsListErrorOf : Option Request → Option FileContents → JobError → Type 0
 IsListErrorOf (Some (raw budget)) contents error = ⊥
 IsListErrorOf (Some (one path budget digits)) contents error = ⊥
 IsListErrorOf (Some (run path workers group)) contents error = IsPossibleListError contents path error
 IsListErrorOf None contents error = ⊥
 
--- the request runs the list at a path, and some contents that the store may have there are a list with an error
+-- the request runs the list at a path, and the store can have an invalid list there
 abbrev pub HasListError : Option Request → Stored → Type 0
 HasListError request store = (error : JobError) × IsListErrorOf request store.contents error
 
@@ -56,17 +56,17 @@ reads_input (Some (one path budget digits)) = false
 reads_input (Some (run path workers group)) = false
 reads_input None = false
 
--- `rows` has the row of the single job with this path, this budget and the console input that the digits encode
+-- `rows` is the row of the single job with this path, this budget and the console input that the digits encode
 abbrev pub AreImageRows : Stored → List ℕ → ℕ → Option (List ℕ) → List Row → Type 0
 AreImageRows store path budget digits rows = (script : List ℕ) × ((script_bytes digits ≡ Ok script)
     × AreJobRows store (single_image_jobs path budget script) rows)
 
--- `rows` are the rows of the jobs of a list that the store may have at the path
+-- `rows` are the rows of the jobs of a list that the store can have at the path
 abbrev pub AreListRows : Stored → List ℕ → List Row → Type 0
 AreListRows store path rows =
     (jobs : List Job) × (IsPossibleList store.contents path jobs × AreJobRows store jobs rows)
 
--- `rows` are the rows in the report of a request, given the bytes of the input and the contents that the store may have
+-- `rows` are the rows of the report that a request makes, for this input and this store
 abbrev pub AreRows : Option Request → Option (List ℕ) → Stored → List Row → Type 0
 AreRows (Some (raw budget)) input store rows = AreRawRows input budget rows
 AreRows (Some (one path budget digits)) input store rows = AreImageRows store path budget digits rows
@@ -81,28 +81,27 @@ is_fail_verdict verdict.Unasked = false
 is_fail_verdict verdict.Pass = false
 is_fail_verdict verdict.Fail = true
 
--- whether the verdict of some row is `fail`
+-- whether the verdict of at least one row is `fail`
 abbrev pub has_failed_row : List Row → Bool
 has_failed_row rows = list_any (λ row. is_fail_verdict row.verdict) rows
 
--- the exit status of a report with these rows: 1 if the verdict of some row is `fail`, and otherwise 0
+-- the exit status of a report with these rows: 1 if a verdict is `fail`, else 0
 abbrev pub verdicts_status : List Row → ℕ
 verdicts_status rows = if has_failed_row rows then 1 else 0
 
--- the report of these rows was written, and `status` is the exit status of this report; `before` and `after` are the bytes written before
--- and after that
+-- the report of these rows was appended to the output `before`, which became `after`, and `status` is the exit status that belongs to it
 pub record IsReportSent (before after : Option (List ℕ)) (status : ℕ) (rows : List Row) : Type 0 where
   pub appended : Appends before after (report_text rows)
   pub verdicts : status ≡ verdicts_status rows
 
--- a prefix of the report of these rows was written; `before` and `after` are the bytes written before and after that
+-- a prefix of the report of these rows was appended to the output `before`, which became `after`
 abbrev pub IsReportPrefixWritten : Option (List ℕ) → Option (List ℕ) → List Row → Type 0
 IsReportPrefixWritten before after rows = AppendsPrefix before after (report_text rows)
 
 -- ---- the response
 
 -- how the program responds to a request: if the status is 0 or 1, its report was written; if it is 2, nothing was written, because the
--- request was rejected or its list has an error; if it is 3, nothing or a prefix of its report was written
+-- arguments are rejected or the list is invalid; if it is 3, nothing or a prefix of the report was written
 pub record IsResponse (request : Option Request) (input : Option (List ℕ)) (store : Stored)
     (before after : Option (List ℕ)) (status : ℕ) : Type 0 where
   pub reported : status ≡ 0 ⊎ status ≡ 1
@@ -115,7 +114,7 @@ pub record IsResponse (request : Option Request) (input : Option (List ℕ)) (st
 
 -- ---- the line on standard error
 
--- a line was written that says why a request is rejected: invalid arguments, or the error of its list
+-- a line was written that says why a request is rejected: the arguments are invalid, or the list has this error
 abbrev pub ReportsRejection : Option Request → Option FileContents
     → Option (List ℕ) → Option (List ℕ) → ℕ → ℕ → Type 0
 ReportsRejection request contents before after failures_before failures_after =
@@ -124,14 +123,14 @@ ReportsRejection request contents before after failures_before failures_after =
     ⊎ ((error : JobError) × (IsListErrorOf request contents error
     × IsLineWritten before after failures_before failures_after (fault_line error)))
 
--- whether the program can have this failure while it handles the request; without a request, only while it writes the help
+-- whether the program can have this failure when it responds to the request, or, without a request, when it writes the help
 abbrev pub may_fail : Option Request → Failure → Bool
 may_fail (Some (raw budget)) failure = is_raw_failure failure
 may_fail (Some (one path budget digits)) failure = is_write_failure failure
 may_fail (Some (run path workers group)) failure = is_list_failure failure
 may_fail None failure = is_write_failure failure
 
--- a line was written that reports a failure which the program can have while it handles the request
+-- a line was written that reports a failure which the program can have when it responds to the request
 abbrev pub ReportsFailure : Option Request → Option (List ℕ) → Option (List ℕ) → ℕ → ℕ → Type 0
 ReportsFailure request before after failures_before failures_after =
     (failure : Failure) × ((may_fail request failure ≡ true)

@@ -20,16 +20,16 @@ use rv_files::{Sink, Store};
 use rv_fleet::{JobList, gather, run_one};
 use std::alloc::Global;
 
-/// Why digits do not represent a console input.
+/// Why hexadecimal digits are not a console input.
 #[derive(Clone, Copy, Debug, PartialEq, Eq)]
 pub enum ScriptError {
-    /// They are not hexadecimal, their number is odd, or they represent more than 65,536 bytes.
+    /// They are invalid: not hexadecimal, or an odd number of them, or they encode more than 65,536 bytes.
     Refused,
     /// An allocation failed.
     OutOfMemory,
 }
 
-/// A run of one ELF image: its path in a store, its budget of steps, and its console input.
+/// A request to run one ELF image: its path in a store, its budget of steps, and its console input.
 #[derive(Drop)]
 pub struct ImageRun<'a> {
     pub path: &'a str,
@@ -48,7 +48,7 @@ pub fn is_bad_path(path: &str) -> bool
     path.is_empty() || MAX_PATH_LEN < path.len()
 }
 
-/// Returns the console input that hexadecimal digits of either case encode; empty if no digits are given. Invalid digits are an error.
+/// Returns the console input that hexadecimal digits of either case encode, or an error if they are invalid. Without digits it is empty.
 pub fn read_script(alloc: Global, digits: Option<&str>) -> Result<Vec<u8>, ScriptError>
     ensures value { IfOk result
         (λ script. script_bytes (option_map (λ text. text.now) digits.entry) ≡ Ok script.items) }
@@ -67,8 +67,8 @@ pub fn read_script(alloc: Global, digits: Option<&str>) -> Result<Vec<u8>, Scrip
     }
 }
 
-/// Runs the ELF image at a path of the store, which is read once, and writes its report to the sink. If the path cannot be read, the report
-/// has a row that says so. Returns the exit status of the report.
+/// Runs the ELF image at a path of the store, and writes its report to the sink. The path is read once; if it cannot be read, the report
+/// has a row that says so. Returns the exit status that belongs to the report.
 pub fn run_image<S: Store, O: Sink>(
     alloc: Global,
     run: ImageRun<'_>,

@@ -30,7 +30,7 @@ pub enum Failure {
     /// A thread could not be started.
     #[error("no worker")]
     NoWorker,
-    /// The file of the job list does not exist, or reading it failed.
+    /// The job list cannot be read, for example because there is no such file.
     #[error("list unreadable")]
     ListUnreadable,
     /// The job list has more than 16,777,216 bytes.
@@ -47,7 +47,7 @@ pub enum Failure {
 /// Why there is no job list.
 #[derive(Clone, Copy, Debug, PartialEq, Eq)]
 pub enum ListError {
-    /// The list has an error.
+    /// The list is invalid.
     Refused(JobError),
     /// The list was not read, or memory ran out.
     Failed(Failure),
@@ -69,7 +69,7 @@ impl From<InputError> for RunError {
 
     ghost from_gives = { λ error run. run ≡ input_read_failure error };
 
-    // Returns the error with which a run ends if reading its input failed with this error.
+    // Returns the run's error for a failed read of its input.
     fn from(error: InputError) -> RunError {
         match error {
             InputError::OutOfMemory => RunError::OutOfMemory,
@@ -83,7 +83,7 @@ impl From<WriteError> for RunError {
 
     ghost from_gives = { λ error run. run ≡ write_failure error };
 
-    // Returns the error with which a run ends if writing its report failed with this error.
+    // Returns the run's error for a failed write of its report.
     fn from(error: WriteError) -> RunError {
         match error {
             WriteError::OutOfMemory => RunError::OutOfMemory,
@@ -108,7 +108,7 @@ impl From<FleetError> for Failure {
 
     ghost from_gives = { λ error failure. failure ≡ fleet_failure error };
 
-    // Returns the failure of the program if computing a report failed with this error.
+    // Returns the program's failure for an error in computing a report.
     fn from(error: FleetError) -> Failure {
         match error {
             FleetError::OutOfMemory => Failure::OutOfMemory,
@@ -122,7 +122,7 @@ impl From<RunError> for Failure {
 
     ghost from_gives = { λ error failure. failure ≡ run_failure error };
 
-    // Returns the failure of the program if running a flat image failed with this error.
+    // Returns the program's failure for an error in running a flat image.
     fn from(error: RunError) -> Failure {
         match error {
             RunError::OutOfMemory => Failure::OutOfMemory,
@@ -137,7 +137,7 @@ impl From<WriteError> for Failure {
 
     ghost from_gives = { λ error failure. failure ≡ send_failure error };
 
-    // Returns the failure of the program if writing a report failed with this error.
+    // Returns the program's failure for a failed write of a report.
     fn from(error: WriteError) -> Failure {
         match error {
             WriteError::OutOfMemory => Failure::OutOfMemory,

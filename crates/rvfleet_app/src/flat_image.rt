@@ -19,7 +19,7 @@ use std::io::Read;
 // The maximum number of bytes that are read: one more than an image may have.
 const MAX_READ: usize = 1_048_577;
 
-/// Runs the reader's bytes as a flat image, and writes its report to the sink. Reads at most 1,048,577 bytes from the reader.
+/// Runs the reader's bytes as a flat image, and writes its report to the sink. Reads at most 1,048,577 bytes.
 pub fn run_raw<R: Read, O: Sink>(
     alloc: Global,
     input: &mut R,
@@ -46,7 +46,7 @@ pub fn run_raw<R: Read, O: Sink>(
     Ok(())
 }
 
-// Returns the first bytes of the reader, at most one more than a flat image may have, so that a longer image is detected.
+// Returns the first bytes of the reader, at most one more than a flat image may have. The additional byte shows that an image is too long.
 fn read_flat_image<R: Read>(alloc: Global, input: &mut R) -> Result<Vec<u8>, InputError>
     ensures first { IfOk result (λ bytes. IsInputBeginning (R.remaining input.old) bytes.items) }
     ensures left { OnOk result

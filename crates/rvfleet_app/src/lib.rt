@@ -1,8 +1,8 @@
-//! The program `rvfleet` as a library: the response to arguments, given any store of files, reader and sinks.
+//! The program `rvfleet` as a library: its response to arguments, for any store of files, reader and sinks.
 //!
-//! [`run_words`] is the whole program: it parses the arguments with `clap`, writes the report of a flat image ([`run_raw`]), of one image
-//! ([`run_image`]) or of a job list ([`read_list`], [`run_jobs`]) to one sink and a line that says what failed to another, and returns the
-//! exit status. The program's `main` passes it the process's own arguments, files and streams.
+//! [`run_words`] is the whole program: it parses the arguments with `clap`, writes the report of a flat image ([`run_raw`]), of an ELF
+//! image ([`run_image`]) or of a job list ([`read_list`], [`run_jobs`]) to one sink, writes a line about a failure to another, and returns
+//! the exit status. The program's `main` passes it the process's own arguments, files and streams.
 #![tactic(auto)]
 
 mod elf_image;
@@ -24,7 +24,7 @@ pub use status::{
     write_failure_line,
 };
 
-// From the crates below: what this interface names, and what its callers need with it.
+// Re-exports from lower crates: the types in this interface, and what its callers need with them.
 pub use rv_cli::rvfleet::{Request, read_words};
 pub use rv_files::{FileStore, ReadError, Sink, SinkFailed, Store, StreamSink, Text, put_all};
 pub use rv_fleet::FreeGate;

@@ -16,7 +16,8 @@ use std::alloc::Global;
 use std::sync::Wait;
 use std::thread::Threads;
 
-/// Reads the job list at a path of the store, and returns its jobs. An error in the list is `Refused`; any other error is `Failed`.
+/// Reads the job list at a path of the store, and returns its jobs. The error is `Refused` if the list is invalid, and `Failed` if it could
+/// not be read or memory ran out.
 pub fn read_list<S: Store>(alloc: Global, store: &mut S, path: &str) -> Result<JobList, ListError>
     ensures same { S.contents store.new ≡ S.contents store.old }
     ensures listed { IfOk result (IsPossibleList (S.contents store.old) path.now) }
@@ -34,7 +35,7 @@ pub fn read_list<S: Store>(alloc: Global, store: &mut S, path: &str) -> Result<J
     }
 }
 
-// Returns the failure of the program if reading the list's file failed with this error.
+// Returns the program's failure for an error in reading the list's file.
 fn list_read_failure(error: ReadError) -> Failure
     ensures { is_list_failure result ≡ true }
 {
@@ -45,8 +46,7 @@ fn list_read_failure(error: ReadError) -> Failure
     }
 }
 
-// Returns the result of reading a list whose parser returned this error: the list is rejected, or, if memory ran out, the program has a
-// failure.
+// Returns the error for a list that was not parsed: `Failed` if memory ran out, and otherwise `Refused`.
 fn job_list_error(error: JobError) -> ListError
     ensures { IsListError error result }
 {
@@ -56,8 +56,8 @@ fn job_list_error(error: JobError) -> ListError
     }
 }
 
-/// Runs jobs on the workers of a crew, reading each of their paths from the store once, and writes the report to the sink. Returns the exit
-/// status of the report.
+/// Runs jobs on the workers of a crew, and writes the report to the sink. Each path is read from the store once. Returns the exit status
+/// that belongs to the report.
 #[tactic(auto, using(crate::proofs::Failing::fleet_why, crate::proofs::Failing::list_why))]
 pub fn run_jobs<R: Threads + Wait, S: Store, O: Sink, G: Gate>(
     crew: &Crew<'_, R>,

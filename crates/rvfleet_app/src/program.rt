@@ -1,4 +1,4 @@
-//! The whole program, given a store, a reader and sinks.
+//! The whole program, for any store, reader and sinks.
 
 ghost use Rattle.rv_files.specs.Limits.{max_budget, max_group, max_workers};
 ghost use Rattle.std.specs.Prelude.{◌≡◌, ◌⊎◌, ◌≤◌, List, Some, None, is_some, map, option_map};
@@ -33,10 +33,10 @@ use std::io::Read;
 use std::sync::Wait;
 use std::thread::Threads;
 
-/// Responds to the arguments, the first of which is the program's name, and returns the exit status: 0 if the help or a report was written
-/// in which no verdict is `fail`, 1 if a report with a verdict `fail` was written, 2 if the arguments or a job list are rejected, and 3 if
-/// memory or a thread could not be obtained, a read failed or a write failed. A line on `errors` says why a status is 2 or 3; a failure to
-/// write that line changes nothing.
+/// Responds to the arguments, of which the first is the program's name, and returns the exit status: 0 if the help was written, or a report
+/// without the verdict `fail`; 1 if a report with a verdict `fail` was written; 2 if the arguments or a job list are rejected; and 3 if
+/// memory ran out, a thread could not be started, or a read or a write failed. For 2 and 3, a line on `errors` says why; if that line
+/// cannot be written, the status does not change.
 pub fn run_words<'a, R: Threads + Wait, T: AsStr, S: Store, I: Read, O: Sink, E: Sink, G: Gate>(
     rt: &R,
     alloc: Global,
@@ -47,18 +47,18 @@ pub fn run_words<'a, R: Threads + Wait, T: AsStr, S: Store, I: Read, O: Sink, E:
     errors: &mut E,
     gate: &G,
 ) -> u8
-    // Arguments that the command accepts make a request.
+    // Arguments that `clap` accepts make a request.
     ensures asked { are_arguments_accepted (map T.text words.entry.now) ≡ true
         → is_some (request_of (map T.text words.entry.now)) ≡ true }
-    // For arguments that it accepts, or in which it finds no error, the report of their request is written whole, in part, or not at all,
-    // as the status says.
+    // For arguments that `clap` accepts, or in which it finds no error, the report of their request is written in full, in part or not at
+    // all, as the status says.
     ensures answers { IsToBeHandled (map T.text words.entry.now)
         → IsResponse (request_of (map T.text words.entry.now)) (I.remaining input.old)
         (stored_contents (S.contents store.old) (S.fault_count store.old) (S.fault_count store.new))
         (O.accepted out.old) (O.accepted out.new) result }
     // No write to `out` failed if the status is 0 or 1.
     ensures counted { result ≡ 0 ⊎ result ≡ 1 → O.failure_count out.new ≡ O.failure_count out.old }
-    // A line on `errors` says why the status is 2 or 3, for any arguments; otherwise nothing is written there.
+    // For status 2 or 3, a line on `errors` says why; otherwise nothing is written there.
     ensures told { ReportsReason (request_without_errors (map T.text words.entry.now)) (S.contents store.old)
         (E.accepted errors.old) (E.accepted errors.new)
         (E.failure_count errors.old) (E.failure_count errors.new) result }
@@ -66,10 +66,10 @@ pub fn run_words<'a, R: Threads + Wait, T: AsStr, S: Store, I: Read, O: Sink, E:
     ensures helped { result ≡ 0 ⊎ result ≡ 1
         → is_some (request_without_errors (map T.text words.entry.now)) ≡ true
         ⊎ RequestsHelp (map T.text words.entry.now) }
-    // No file is read for arguments that request none.
+    // No file is read unless the arguments request it.
     ensures unread { reads_store (request_without_errors (map T.text words.entry.now)) ≡ false
         → S.fault_count store.new ≡ S.fault_count store.old }
-    // Arguments that do not request the input leave it unchanged.
+    // The input is not read unless the arguments request it.
     ensures untaken { reads_input (request_without_errors (map T.text words.entry.now)) ≡ false
         → I.remaining input.new ≡ I.remaining input.old }
     // The status is 0, 1, 2 or 3.
@@ -85,7 +85,7 @@ pub fn run_words<'a, R: Threads + Wait, T: AsStr, S: Store, I: Read, O: Sink, E:
     }
 }
 
-/// What the program runs on: threads, an allocator, and a gate.
+/// What the program runs on: threads, an allocator, and the gate of its workers.
 #[derive(Drop)]
 struct Host<'a, R, G> {
     rt: &'a R,
@@ -93,7 +93,7 @@ struct Host<'a, R, G> {
     gate: &'a G,
 }
 
-/// A request to run one image.
+/// The arguments of a request to run one image.
 #[derive(Clone, Copy)]
 struct ImageArgs<'a> {
     path: &'a str,
@@ -101,7 +101,7 @@ struct ImageArgs<'a> {
     digits: Option<&'a str>,
 }
 
-/// A request to run a job list.
+/// The arguments of a request to run a job list.
 #[derive(Clone, Copy)]
 struct ListArgs<'a> {
     path: &'a str,
@@ -200,7 +200,7 @@ impl<'a, R: Threads + Wait, G: Gate> Host<'a, R, G> {
     }
 }
 
-// Runs the flat image on the input, and returns the exit status: 0 if its report was written, or 3.
+// Runs the flat image on the input, and returns the exit status: 0 if its report was written, and otherwise 3.
 #[tactic(auto, using(crate::proofs::Failing::raw_why))]
 fn respond_to_raw<I: Read, O: Sink, E: Sink>(
     alloc: Global,
@@ -269,8 +269,8 @@ fn respond_to_image<S: Store, O: Sink, E: Sink>(
     }
 }
 
-// Responds to an error of `clap` and returns the exit status: a request for help writes it to `out`, out of memory is a failure, and any
-// other error rejects the arguments.
+// Responds to an error of `clap`, and returns the exit status. For a request for help, writes the help to `out`. Reports that memory ran
+// out as a failure, and any other error as rejected arguments.
 fn respond_to_clap_error<O: Sink, E: Sink>(
     alloc: Global,
     error: &Error,
@@ -297,7 +297,7 @@ fn respond_to_clap_error<O: Sink, E: Sink>(
     }
 }
 
-// Writes the help to `out`, and returns the exit status: 0, or 3 if memory ran out or the write failed.
+// Writes the help to `out`, and returns the exit status: 0, or 3 if memory ran out or a write failed.
 fn write_help<O: Sink, E: Sink>(alloc: Global, help: &Error, out: &mut O, errors: &mut E) -> u8
     ensures counted { result ≡ DONE → O.failure_count out.new ≡ O.failure_count out.old }
     ensures quiet { result ≡ DONE → IsQuiet (E.accepted errors.old) (E.accepted errors.new)
@@ -307,7 +307,7 @@ fn write_help<O: Sink, E: Sink>(alloc: Global, help: &Error, out: &mut O, errors
     ensures range { result ≡ DONE ⊎ result ≡ FAILED }
 {
     let Ok(help) = help.to_string(alloc) else {
-        // Out of memory: `to_string` fails by that alone.
+        // `to_string` can fail for this reason only.
         return write_failure_line(errors, Failure::OutOfMemory);
     };
     match put_all(out, help.as_bytes()) {

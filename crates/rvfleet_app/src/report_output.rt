@@ -1,4 +1,4 @@
-//! A report and its status.
+//! Writes a report, and finds its exit status.
 
 ghost use Rattle.std.specs.Prelude.{true, ◌≡◌, ◌≤◌, IfErr, IfOk, OnErr, OnOk};
 ghost use Rattle.rv_files.specs.Counts.{HasIncreased};
@@ -11,7 +11,7 @@ use rv_files::Sink;
 use rv_fleet::{Report, Row, Verdict, write_report};
 use std::alloc::Global;
 
-/// Writes a report to the sink, and returns its exit status.
+/// Writes a report to the sink, and returns the exit status that belongs to it.
 #[tactic(auto, using(crate::proofs::Failing::send_why))]
 pub fn send_report<O: Sink>(alloc: Global, report: &Report, out: &mut O) -> Result<u8, Failure>
     ensures reported { IfOk result
@@ -27,7 +27,7 @@ pub fn send_report<O: Sink>(alloc: Global, report: &Report, out: &mut O) -> Resu
     Ok(verdicts_status(report.rows.as_slice()))
 }
 
-// Returns the exit status of a report with these rows: 1 if the verdict of some row is `fail`, and otherwise 0.
+// Returns the exit status of a report with these rows: 1 if a verdict is `fail`, else 0.
 fn verdicts_status(rows: &[Row]) -> u8
     ensures value { result ≡ verdicts_status rows.now }
     ensures range { result ≤ 1 }
@@ -39,7 +39,7 @@ fn verdicts_status(rows: &[Row]) -> u8
     }
 }
 
-// Whether the verdict of some row is `fail`.
+// Whether the verdict of at least one row is `fail`.
 fn has_failed_row(rows: &[Row]) -> bool
     ensures { result ≡ has_failed_row rows.now }
 {

@@ -1,4 +1,4 @@
-//! The exit statuses of the program, and the lines on standard error, each with its status.
+//! The exit statuses of the program, and the lines on standard error.
 
 ghost use Rattle.std.specs.Prelude.{◌≡◌, ◌⊎◌};
 ghost use Rattle.rvfleet_app.specs.Lines.{IsLineWritten, bad_arguments_line, failure_line, fault_line};
@@ -9,16 +9,16 @@ use rv_fleet::JobError;
 use std::alloc::Global;
 use std::io::{self, ErrorKind};
 
-/// The status if a report without a failed verdict, or the help, was written.
+/// The exit status when the help, or a report without the verdict `fail`, was written.
 pub const DONE: u8 = 0;
 
-/// The status if a report with a failed verdict was written.
+/// The exit status when a report with a verdict `fail` was written.
 pub const SOME_FAIL: u8 = 1;
 
-/// The status if the arguments or a job list are rejected.
+/// The exit status when the arguments or a job list are rejected.
 pub const BAD_ARGUMENTS: u8 = 2;
 
-/// The status if memory ran out, a thread could not be started, or a read or a write failed.
+/// The exit status when memory ran out, a thread could not be started, or a read or a write failed.
 pub const FAILED: u8 = 3;
 
 /// Writes the line for rejected arguments, and returns the status 2.
@@ -31,7 +31,8 @@ pub fn reject_arguments<E: Sink>(errors: &mut E) -> u8
     BAD_ARGUMENTS
 }
 
-/// Writes the line for the error of a job list, and returns the status 2; or 3 with another line if memory runs out.
+/// Writes the line for an invalid job list, and returns the status 2. If there is not enough memory for this line, writes the line for
+/// that, and returns 3.
 pub fn reject_list<E: Sink>(alloc: Global, errors: &mut E, error: JobError) -> u8
     ensures status { result ≡ BAD_ARGUMENTS ⊎ result ≡ FAILED }
     ensures told { result ≡ BAD_ARGUMENTS
@@ -42,7 +43,7 @@ pub fn reject_list<E: Sink>(alloc: Global, errors: &mut E, error: JobError) -> u
 {
     let JobError { job, what } = error;
     let Ok(line) = format!(in alloc; "rvfleet: job {job}: {}\n", what.name()) else {
-        // Out of memory: `format!` fails by that alone.
+        // `format!` can fail for this reason only.
         return write_failure_line(errors, Failure::OutOfMemory);
     };
     write_error_line(errors, line.as_str());
@@ -59,8 +60,8 @@ pub fn write_failure_line<E: Sink>(errors: &mut E, failure: Failure) -> u8
     FAILED
 }
 
-/// Reports that the program cannot get its arguments, and returns the status: 3 if memory ran out; 2 for any other error, such as arguments
-/// that are not UTF-8.
+/// Reports that the program cannot get its arguments, and returns the status: 3 if memory ran out, and 2 for any other reason, such as
+/// arguments that are not UTF-8.
 pub fn reject_unreadable_args<E: Sink>(error: &io::Error, errors: &mut E) -> u8
     ensures status { result ≡ BAD_ARGUMENTS ⊎ result ≡ FAILED }
     ensures refused { result ≡ BAD_ARGUMENTS
@@ -90,7 +91,7 @@ fn failure_line(failure: Failure) -> &'static str
     }
 }
 
-// Writes a line on standard error. A failure to write it is ignored: it changes no status.
+// Writes a line on standard error. If this fails, there is no further effect.
 fn write_error_line<E: Sink>(errors: &mut E, line: &str)
     ensures { IsLineWritten (E.accepted errors.old) (E.accepted errors.new)
         (E.failure_count errors.old) (E.failure_count errors.new) line.now }

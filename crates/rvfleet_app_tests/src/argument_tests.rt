@@ -1,9 +1,9 @@
-//! The arguments of the command: rejected ones, the longest, and help.
+//! The arguments of the program: rejected ones, the longest ones, and help.
 
 use crate::cases::check;
 use std::test::Fail;
 
-// Arguments that are rejected, one line each; no path is read. The first line has no arguments.
+// Arguments that are rejected, one line each, before any path is read. The first line has no arguments.
 const BAD_ARGUMENTS: &str = "\
 31|1|rvfleet $_
 ====
@@ -42,7 +42,7 @@ run jobs --group 4097
 run jobs --group x
 ";
 
-// An image at a path, with console input: the length of the path | the number of bytes of the input
+// An image at a path, and console input: the length of the path | the number of bytes of the input
 const LONGEST_WORDS: &str = "\
 1|1|rvfleet one  + $0 times a +  --budget 10 --input-hex  + $1 times 4f + || + $0 times a +  = code 100002b7 0042a503 X
 ====
@@ -57,7 +57,7 @@ done 1/
 4096 | 65536
 ";
 
-/// As `LONGEST_WORDS`, but the input or the path is too long, and the arguments are rejected.
+/// As `LONGEST_WORDS`, but the path or the input is too long, so the arguments are rejected.
 const LONGER_WORDS: &str = "\
 2|1|rvfleet one  + $0 times a +  --budget 10 --input-hex  + $1 times 4f + || + $0 times a +  = code 100002b7 0042a503 X
 ====
@@ -67,7 +67,7 @@ const LONGER_WORDS: &str = "\
 4097 |
 ";
 
-// A list at a path of this length where there is no file.
+// A list at a path of this length, where no file exists.
 const LONGEST_PATH: &str = "\
 1|1|rvfleet run  + $0 times a
 ====
@@ -85,7 +85,7 @@ const LONGER_PATH: &str = "\
 4097
 ";
 
-/// Arguments that request the help of the command.
+/// Arguments that request the help of the program.
 const HELP: &str = "\
 2|1|rvfleet $_
 ====
@@ -105,7 +105,7 @@ Options:
 -h
 ";
 
-/// Arguments that request the help of `raw`.
+/// Arguments that request the help of the command `raw`.
 const RAW_HELP: &str = "\
 1|1|rvfleet $_
 ====
@@ -120,7 +120,7 @@ Options:
 raw --help
 ";
 
-/// Arguments that request the help of `one`.
+/// Arguments that request the help of the command `one`.
 const ONE_HELP: &str = "\
 1|1|rvfleet $_
 ====
@@ -139,7 +139,7 @@ Options:
 one --help
 ";
 
-/// Arguments that request the help of `run`.
+/// Arguments that request the help of the command `run`.
 const RUN_HELP: &str = "\
 1|1|rvfleet $_
 ====

@@ -17,7 +17,7 @@ use std::sync::Wait;
 use std::test::Fail;
 use std::thread::Threads;
 
-// Returns the output of the program for a case, with these bytes as its input.
+// Returns the output of the program for a case, if its input has these bytes.
 fn output_of(
     rt: &(impl Threads + Wait),
     alloc: Global,
@@ -55,7 +55,7 @@ fn summary_part<'a>(view: &str, line: &'a str) -> &'a str {
 }
 
 // Returns the summary of an output, separated by spaces: the reads if `view` requests them, the status, the error output, and the parts of
-// the report's lines that `kept` returns.
+// the report's lines that `summary_part` returns.
 fn summary(alloc: Global, view: &str, told: &str) -> Result<String, AllocError> {
     let mut text = String::new(alloc);
     if view.contains("reads") {
@@ -81,7 +81,7 @@ fn compared_part(alloc: Global, view: &str, told: &str) -> Result<String, AllocE
     }
 }
 
-// Returns the part of the output for a row that is compared; `ask` is the form of the input.
+// Returns the compared part of the output for a row; `ask` is the form of the input.
 fn actual_output(
     rt: &(impl Threads + Wait),
     alloc: Global,
@@ -106,7 +106,7 @@ fn check_row(
     check_equal(row, answer.as_str(), wanted.as_str())
 }
 
-// Checks the output for a row with a number in place of each `%`.
+// Checks the output for a row in which each `%` is replaced by a number.
 fn check_numbered(
     rt: &(impl Threads + Wait),
     alloc: Global,
@@ -119,7 +119,7 @@ fn check_numbered(
     check_row(rt, alloc, ask, wanted, row.as_str())
 }
 
-// Checks the outputs for a line: for one row, or for as many numbered rows as the line says.
+// Checks the outputs for a line, which is one row or stands for several numbered rows.
 fn check_line(
     rt: &(impl Threads + Wait),
     alloc: Global,
@@ -134,7 +134,7 @@ fn check_line(
     Ok(())
 }
 
-// Checks that a table has as many lines as its form of the input says, and checks the outputs for each line.
+// Checks that a table has as many lines as its form of the input says, and the output for each line.
 fn check_parts(
     rt: &(impl Threads + Wait),
     alloc: Global,
@@ -157,14 +157,14 @@ fn part_of_table(table: &str, place: usize) -> &str {
 /// The key that `$S` represents in a table.
 const SIGNATURE: &str = "signature = ['begin_signature', 'end_signature']";
 
-// Checks that the program responds to each row of a table as expected.
+// Checks that the program has the expected output for each row of a table.
 fn check_table(rt: &(impl Threads + Wait), alloc: Global, table: &str) -> Result<(), Fail> {
     let table = table.replace(alloc, "$S", SIGNATURE)?;
     let (ask, wanted) = (part_of_table(&table, 0), part_of_table(&table, 1));
     check_parts(rt, alloc, ask, wanted, part_of_table(&table, 2))
 }
 
-/// Checks that the program responds to each row of some tables as expected.
+/// Checks that the program has the expected output for each row of these tables.
 pub(crate) fn check(
     rt: &(impl Threads + Wait),
     alloc: Global,

@@ -1,10 +1,10 @@
-//! Expected consoles and ends, through the whole program.
+//! Expected console output and expected ends, tested with the whole program.
 
 use crate::cases::check;
 use std::test::Fail;
 
-// label | keys of a job besides its name and its budget of 100; an image prints with 100002b7 (the console's address), a byte into x10, and
-// 00a2a023 | the status and its verdict
+// label | keys of a job besides its name and its budget of 100; an image prints with 100002b7 (the address of the console), a byte in x10,
+// and 00a2a023 | the status and the verdict
 const RUNS: &str = "\
 45|verdict|rvfleet run jobs|job = [{name = 'a', budget = 100, $1}]
 ====
@@ -59,7 +59,7 @@ all six but one | image = 'sign', $S, expect_signature = 'bytes 38 30*7 0a 66*8 
 expect_exit = 0 | 1 fail
 ";
 
-// An image that prints `A` 65,536 times, and then exits or prints once more: what follows in the image | a key | its value | the output
+// An image that prints `A` 65,536 times, and then exits or prints once more: the rest of the image | a key | its value | the output
 const FULL_CONSOLES: &str = "\
 6|verdict|rvfleet run jobs|job = [{name = 'a', budget = 200000, \
 image = 'code 100002b7 00010337 04100513 00a2a023 fff30313 fe031ce3 $0', $1 = ' + $2 + '}]
@@ -74,8 +74,8 @@ X | expect_console_file | bytes 41*65537 | 1 fail done 1
 00a2a023 | expect_end | console-full | 0 pass done 1
 ";
 
-// The reference | the console's file | the end, and the steps | how many files are not found, and the paths that are read, the reference
-// first
+// The golden signature | the file of the golden console output | the end, and the steps | how many files are not found, and the paths that
+// are read, the golden signature first
 const REFERRING: &str = "\
 9|reads end steps|rvfleet run jobs|job = [{name = 'a', budget = 100, image = 'sign', $S, \
 expect_signature = '$0', expect_console_file = '$1'}]
@@ -93,7 +93,7 @@ missing | missing | refused reference-unreadable 0 | 1;jobs;sign;missing;
 bytes 00 | sign | exit 0 9 | 0;jobs;sign;bytes 00;
 ";
 
-// A job that names another one is compared with the latter's outcome, whatever its verdict. Each file is read once, and none is missing.
+// A job with `same_as` is compared with the outcome of the other job, whatever its verdict. Each file is read once, and none is missing.
 // The rows are the arguments.
 const NAMING: &str = "\
 3|reads verdict|$_|[[job]]
@@ -132,7 +132,7 @@ rvfleet run jobs --workers 4
 rvfleet run jobs --workers 64
 ";
 
-// Verdicts compare the console, the end and the exit code of a run with the job's expectations.
+// A verdict compares the console output, the end and the exit code of a run with the expectations of the job.
 #[test]
 fn judges_consoles_and_endings(rt: HostRuntime) -> Result<(), Fail> {
     check(&rt, rt.alloc(), &[RUNS, FULL_CONSOLES, REFERRING, NAMING])

@@ -1,10 +1,11 @@
-//! Writes that fail, each in turn, reads of the input, and a line on standard error that is not accepted.
+//! Failed writes, each in turn, failed reads of the input, and a failed write to standard error.
 
 use crate::cases::check;
 use std::test::Fail;
 
 // One write of a report fails: arguments | a key of the first job | the maximum number of bytes per write | how many writes succeed before
-// | their bytes. With one worker and with four, each of 405 writes of one byte fails in turn, or the only write if it accepts all rows.
+// | their number of bytes. With one worker and with four, each of 405 writes of one byte fails in turn, or the only write if it accepts all
+// rows.
 const CUT_REPORTS: &str = "\
 4|0|rvfleet $0|
 [[job]]
@@ -90,7 +91,7 @@ in one put | | 1
 a byte a put | put_most=1 | 71
 ";
 
-// Writes of ten bytes, one of which fails: label | what fails | how many succeed before | their bytes
+// Writes of ten bytes, one of which fails: label | what fails | how many succeed before | their number of bytes
 const CUT_PUTS: &str = "\
 1|0|rvfleet raw --budget 3|||read_most=1 $1|00500513 X
 ====
@@ -100,7 +101,7 @@ none/done 1/
 8 rows: ten bytes a put | put_most=10 puts=% | % | %0
 ";
 
-// The bytes of a reader that returns one byte per read, and fails after the last; nothing is written.
+// The bytes of a reader that returns one byte per read, and fails after the last one. Nothing is written.
 const BROKEN_OFF: &str = "\
 14|0|rvfleet raw --budget 3|||read_most=1 read_fails|$_
 ====
@@ -122,7 +123,7 @@ const BROKEN_OFF: &str = "\
 00500513
 ";
 
-// At most one byte more than an image may have is read: the bytes of the input | how many are left
+// At most one byte more than an image may have is read: the number of bytes of the input | how many are left
 const LEFT_INPUT: &str = "\
 1|0|rvfleet raw --budget 3||||$0
 ====

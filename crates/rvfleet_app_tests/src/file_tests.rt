@@ -1,4 +1,4 @@
-//! The store over files.
+//! Reading files of the file system.
 
 use crate::testing::output_with_store;
 use rvfleet_app::{FileStore, ReadError, Store};
@@ -27,7 +27,7 @@ fn runs_a_file(rt: HostRuntime) -> Result<(), Fail> {
     check_equal(line, told.as_str(), IMAGE_REPORT)
 }
 
-// Reads the file at a path, and returns as text whether it has these bytes, or the reason why it was not read.
+// Reads the file at a path. Returns as text whether it has these bytes, or why it was not read.
 fn actual_output(rt: &HostRuntime, path: &str, bytes: &[u8]) -> &'static str {
     let mut store = FileStore::new(rt);
     match store.read(rt.alloc(), path) {
@@ -40,7 +40,7 @@ fn actual_output(rt: &HostRuntime, path: &str, bytes: &[u8]) -> &'static str {
 }
 
 // The path | the bytes of the file | the result of reading it. The files have no bytes, the maximum number, and one more; a UTF-8 byte
-// order mark, some pages of bytes and one more, and a path with spaces.
+// order mark; some pages of bytes and one byte more; and a path with spaces.
 const FILES: &str = "\
 zeros.bin| | these bytes
 zeros.bin| 00*16777216 | these bytes
@@ -51,7 +51,7 @@ pages.bin| 01 02 03 5a*8190 | these bytes
  spaced | 01 02 03 | these bytes
 ";
 
-// Writes the file of a line, checks that the store returns the line's result, and that it finds no file once the file is removed.
+// Writes the file of a line, checks that reading it has the result of the line, removes the file, and checks that it is then not found.
 fn check_file_row(rt: &HostRuntime, line: &str) -> Result<(), Fail> {
     let path = line.split('|').next().unwrap_or("");
     let bytes = numbers(rt.alloc(), cell_of(line, 1))?;
@@ -61,7 +61,7 @@ fn check_file_row(rt: &HostRuntime, line: &str) -> Result<(), Fail> {
     check_equal(line, actual_output(rt, path, &bytes), "unreadable")
 }
 
-// The store returns the bytes of files, or the reason why they cannot be read.
+// Reading a file returns its bytes, or the reason why it cannot be read.
 #[test]
 fn reads_files(rt: HostRuntime) -> Result<(), Fail> {
     for line in FILES.lines() {

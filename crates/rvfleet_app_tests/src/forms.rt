@@ -1,4 +1,4 @@
-//! Forms of texts, which rows fill.
+//! Forms: texts in which the cells of a row are filled in.
 //!
 //! In a form `$0`, `$1` and so on represent the cells of a row, and `$_` the whole row. A slash ends a line, and ` + ` separates parts that
 //! follow each other: `3 times TEXT` is that text three times, with `%` in each replaced by its number, from 1, and `3 bytes of TEXT` is
@@ -7,7 +7,7 @@
 use samples::cell_of;
 use std::alloc::{AllocError, Global};
 
-/// The names of a row's cells in a form.
+/// The names of the cells of a row in a form.
 const CELLS: [&str; 10] = ["$0", "$1", "$2", "$3", "$4", "$5", "$6", "$7", "$8", "$9"];
 
 /// Returns the part of a text with this index, from 0; parts are separated by bars.
@@ -15,7 +15,7 @@ pub(crate) fn part(text: &str, place: usize) -> &str {
     text.split('|').nth(place).unwrap_or("")
 }
 
-// Returns a form with the cells of a row, or the whole row, in place of their names, and a line feed in place of each slash.
+// Returns a form with the names of the cells, or of the row, replaced by their texts, and each slash by a line feed.
 fn with_cells(alloc: Global, form: &str, row: &str) -> Result<String, AllocError> {
     let mut text = form.replace(alloc, "$_", row)?;
     for (place, name) in CELLS.iter().enumerate() {
@@ -24,14 +24,14 @@ fn with_cells(alloc: Global, form: &str, row: &str) -> Result<String, AllocError
     text.as_str().replace(alloc, "/", "\n")
 }
 
-/// Returns a text with a number in place of each `%`.
+/// Returns a text with each `%` replaced by a number.
 pub(crate) fn numbered(alloc: Global, form: &str, number: usize) -> Result<String, AllocError> {
     let mut text = String::new(alloc);
     push_numbered(&mut text, form, number)?;
     Ok(text)
 }
 
-// Appends a text with a number in place of each `%`.
+// Appends a text with each `%` replaced by a number.
 fn push_numbered(text: &mut String, form: &str, number: usize) -> Result<(), AllocError> {
     for (nth, part) in form.split('%').enumerate() {
         if nth > 0 {
@@ -42,7 +42,7 @@ fn push_numbered(text: &mut String, form: &str, number: usize) -> Result<(), All
     Ok(())
 }
 
-// Appends a text as often as `count` says, each time with its number, from 1, in place of each `%`.
+// Appends a text `count` times, each time with each `%` replaced by its number, from 1.
 fn push_each(text: &mut String, form: &str, count: usize) -> Result<(), AllocError> {
     for number in 0..count {
         push_numbered(text, form, number.saturating_add(1))?;
@@ -50,7 +50,7 @@ fn push_each(text: &mut String, form: &str, count: usize) -> Result<(), AllocErr
     Ok(())
 }
 
-// Appends a text `count` times. It is fast, because the count is often in the millions.
+// Appends a text without `%` `count` times. This is fast, because the count is often in the millions.
 fn push_same(text: &mut String, form: &str, count: usize) -> Result<(), AllocError> {
     for _ in 0..count {
         text.push_str(form)?;
@@ -58,7 +58,7 @@ fn push_same(text: &mut String, form: &str, count: usize) -> Result<(), AllocErr
     Ok(())
 }
 
-// Appends a part: for `3 times TEXT` the text three times, and any other part once.
+// Appends a part of a form: for `3 times TEXT` the text three times, and any other part once.
 fn push_times(text: &mut String, part: &str) -> Result<(), AllocError> {
     let (count, form) = part.split_once(" times ").unwrap_or(("1", part));
     let count = count.parse::<usize>().unwrap_or(0);
@@ -69,13 +69,13 @@ fn push_times(text: &mut String, part: &str) -> Result<(), AllocError> {
     }
 }
 
-// Returns the first `count` bytes of a text; if there are fewer, a text that no test expects.
+// Returns the first `count` bytes of a text; if it has fewer, a text that no test expects.
 fn first_bytes<'a>(count: &str, text: &'a str) -> &'a str {
     let count = count.parse::<usize>().unwrap_or(usize::MAX);
     text.get(..count).unwrap_or("more than there are")
 }
 
-// Appends a part: for `3 bytes of TEXT` the first three bytes of the text, and any other part as `push_times` does.
+// Appends a part of a form: for `3 bytes of TEXT` the first three bytes of the text, and any other part as `push_times` does.
 fn push_part(text: &mut String, part: &str) -> Result<(), AllocError> {
     match part.split_once(" bytes of ") {
         Some((count, whole)) => text.push_str(first_bytes(count, whole)),
@@ -83,7 +83,7 @@ fn push_part(text: &mut String, part: &str) -> Result<(), AllocError> {
     }
 }
 
-// Returns the text that a form describes: its parts, which are separated by ` + `, one after another.
+// Returns the text of a form whose cells are filled in: its parts, which are separated by ` + `, joined.
 fn expanded(alloc: Global, form: &str) -> Result<String, AllocError> {
     let mut text = String::new(alloc);
     for part in form.split(" + ") {
@@ -92,7 +92,7 @@ fn expanded(alloc: Global, form: &str) -> Result<String, AllocError> {
     Ok(text)
 }
 
-/// Returns the text that a form describes with the cells of a row.
+/// Returns the text of a form, with the cells of a row filled in.
 pub(crate) fn form_text(alloc: Global, form: &str, row: &str) -> Result<String, AllocError> {
     let text = with_cells(alloc, form, row)?;
     expanded(alloc, text.as_str())

@@ -1,4 +1,4 @@
-//! Flat images, ELF images and the example firmware, through the whole program.
+//! Flat images, ELF images and the example firmware, tested with the whole program.
 
 use crate::cases::check;
 use std::test::Fail;
@@ -114,7 +114,7 @@ both cases of digits | code 100002b7 0002a503 00a2a023 0002a503 00a2a023 0002a50
 exit 4294967295 | 7 | 4fe0
 ";
 
-// firmware | input | end | console: what the programs print was derived from their source.
+// firmware | input | end | console output, which was derived from the source of the programs.
 const FIRMWARE_RUNS: &str = "\
 2|end console|rvfleet one image --budget 100000 --input-hex $1||image = $0
 ====
@@ -124,7 +124,7 @@ upper | 48692c207276333221 | exit 3 | 232048492c2052563332210a
 checksum | 313233343536373839 | exit 0 | 63626634333932360a
 ";
 
-// A file that is not read: the file | how many are not found | the reason of the refusal
+// A file that cannot be read: the file | how many are not found | why the job is refused
 const UNREAD_FILES: &str = "\
 2|1|rvfleet one image --budget 10||image = $0
 ====
@@ -134,7 +134,7 @@ none | 1 | image-unreadable
 bytes 00*16777217 | 0 | image-too-long
 ";
 
-/// A file whose read runs out of memory.
+/// A file for which memory runs out.
 const NO_MEMORY: &str = "\
 1|1|rvfleet one image --budget 10||image = $0|no_memory=1
 ====

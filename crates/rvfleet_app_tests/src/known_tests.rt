@@ -1,4 +1,4 @@
-//! The program with a store whose file contents are known, as the contract on reports requires.
+//! The program with a store whose contents are known, so that the contract says what the report is.
 
 ghost use Rattle.std.specs.Prelude.{Some};
 
@@ -10,7 +10,7 @@ use std::sync::Wait;
 use std::test::Fail;
 use std::thread::Threads;
 
-/// A store that has the same bytes at each path, and whose contents are known.
+/// A store that has these bytes at each path, and whose contents are known.
 #[derive(Drop)]
 struct KnownStore<'a> {
     bytes: &'a [u8],
@@ -29,7 +29,7 @@ impl<'a> Store for KnownStore<'a> {
         self.bytes.to_vec(alloc).map_err(|_| ReadError::OutOfMemory)
     }
 
-    // Returns 0: every file is readable.
+    // Returns 0: no read fails.
     fn faults(&self) -> u64 {
         0
     }
@@ -48,7 +48,7 @@ done 1
 
 const LIST: &[u8] = b"[[job]]\nname = 'j'\nimage = 'i'\nbudget = 3\n";
 
-// The output for the list, whose job has the list itself as its image.
+// The output for the list, whose job uses the list as its image.
 const LIST_REPORT: &str = "\
 1 0 0 0|0;|0||job 1 j
 end refused short-header

@@ -1,4 +1,4 @@
-//! Tests of the program with stores, readers and sinks in memory, and with files. The crate contains nothing else, so that no code of the
+//! Tests of the program with stores, readers and sinks in memory, and with files. They have a crate of their own, so that no code of the
 //! program is proved twice.
 #![tactic(auto)]
 

@@ -1,9 +1,10 @@
-//! Inputs of the greatest length, through the whole program: none is reported as out of memory.
+//! The longest inputs, tested with the whole program: memory does not run out.
 
 use crate::cases::check;
 use std::test::Fail;
 
-// A comment followed by a list of one job, with as many bytes as a list may have, and one more: the length of the comment | the output
+// A comment followed by a list of one job, with the maximum number of bytes of a list and with one more: the length of the comment | the
+// output
 const COMMENTS: &str = "\
 2|end|rvfleet run jobs| + $0 times # + /[[job]]/name = 'a'/image = 'a.elf'/budget = 3/|a.elf = one
 ====
@@ -13,7 +14,7 @@ $1
 16777170 | 3 rvfleet: list too long
 ";
 
-/// A text that is not a list, with as many bytes as a list may have: its length | the error
+/// A text that is not a list, with the maximum number of bytes of a list: its length | the error
 const NO_LIST: &str = "\
 1|1|rvfleet run jobs| + $0 times x
 ====
@@ -22,8 +23,8 @@ const NO_LIST: &str = "\
 16777216 | job 0: not-toml
 ";
 
-// The image leaves its signature of 65,536 words 0, and the reference has a line for each word. The path of the reference, which is short
-// or the longest, is a repeated text: how often | the text
+// The image leaves its signature of 65,536 words 0, and the golden signature has a line for each word. Its path, which is short or the
+// longest, is a text repeated: how often | the text
 const LONGEST_SIGNATURE: &str = "\
 2|signature verdict|rvfleet run jobs|[[job]]/name = 'a'/image = 'long.elf'/budget = 100/$S/expect_signature = ' + $0 \
 times $1 + '/|long.elf = sign 152=80040000 168=80080000
@@ -44,8 +45,8 @@ const REGIONS: &str = "\
 17 | job 1: region
 ";
 
-// As many jobs as a list may have, each with its own image and reference; the reference of the last one is wrong. The row is the number of
-// jobs before it.
+// The maximum number of jobs in a list, each with its own image and golden signature; the golden signature of the last job is wrong. The
+// row is the number of jobs before it.
 const PATHS: &str = "\
 1|reads verdict|rvfleet run jobs --workers 4 --group 7| + \
 $0 times [[job]]/name = '%'/image = 'sign#%'/budget = 100/$S/\
@@ -59,7 +60,7 @@ $0 times  pass +  fail done 4096
 4095
 ";
 
-// The longest inputs are accepted, and longer ones are rejected, without running out of memory.
+// The longest inputs are accepted and longer ones are rejected, and memory does not run out.
 #[test]
 fn accepts_the_longest_inputs(rt: HostRuntime) -> Result<(), Fail> {
     check(

@@ -1,4 +1,4 @@
-//! Job lists through the whole program, with files in memory.
+//! Job lists, tested with the whole program and files in memory.
 
 use crate::cases::check;
 use std::test::Fail;
@@ -143,7 +143,7 @@ x = 1/ | job 0: too-many | 4097 |
  | job 4096: budget | 4095 | [[job]]/name = 'last'/image = 'image'/budget = 0/
 ";
 
-// The list is read through the store too: what it is | how many files are not found | the error
+// The list cannot be read: what is at its path | how many files are not found | the error
 const UNREAD_LISTS: &str = "\
 2|1|rvfleet run jobs||jobs = $0
 ====
@@ -153,7 +153,7 @@ none | 1 | list unreadable
 bytes 20*16777217 | 0 | list too long
 ";
 
-// A row that has everything that a row may have: keys | the status | the signature | the verdict. The image prints 41, 00 and ff.
+// A row with everything that a row can have: keys | the status | the signature | the verdict. The image prints 41, 00 and ff.
 const FULL_ROWS: &str = "\
 2|2|rvfleet run jobs|job = [{name = 'a.b_c-d', image = 'i', budget = 100, $0}]|i = sign 84=100002b7 88=04100513 \
 92=00a2a023 \
@@ -165,8 +165,8 @@ signature = ['end_signature', 'end_signature'], expect_exit = 5 | 0 | 0 | pass
 $S, expect_exit = 6 | 1 | 2/80000000/0000001f | fail
 ";
 
-// A list of 4,096 jobs with a truncated image, which is read once. The rows are written together, about 32,768 bytes per write. The rows of
-// the table are the arguments.
+// A list of 4,096 jobs with one truncated image, which is read once. The rows are written in chunks of about 32,768 bytes. The rows of the
+// table are the arguments.
 const LONGEST_LIST: &str = "\
 2|0|$_| + 4096 times [[job]]/name = '%'/image = 'image'/budget = 10/ + |image = one 51
 ====
@@ -177,7 +177,7 @@ rvfleet run jobs --workers 64 --group 1
 rvfleet run jobs --workers 64 --group 4096
 ";
 
-// Lists of jobs have the expected reports, and lists with an error the expected error output.
+// Lists of jobs have the expected reports, and lists with an error have the expected error output.
 #[test]
 fn runs_lists(rt: HostRuntime) -> Result<(), Fail> {
     check(

@@ -1,10 +1,10 @@
-//! Reports of lists with every number of workers, and of lists with one unreadable file, each in turn.
+//! Reports of lists with different numbers of workers, and of lists of which one file, each in turn, cannot be read.
 
 use crate::cases::check;
 use std::test::Fail;
 
-// A list with one job of each kind of end: arguments | a key of the first job | its verdict | the maximum number of bytes per write | how
-// many writes it takes. Each path is read once, in order of first use. The report has 405 bytes.
+// A list with one job for each kind of end: arguments | a key of the first job | its verdict | the maximum number of bytes per write | the
+// number of writes. Each path is read once, in order of first use. The report has 405 bytes.
 const REPORTED: &str = "\
 8|0|rvfleet $0|
 [[job]]
@@ -83,8 +83,8 @@ run jobs --workers 1 | expect_exit = 5 | pass | 1 | 405
 run jobs --workers 4 --group 2 | expect_exit = 5 | pass | 1 | 405
 ";
 
-// The file of one read is not found, with one worker and with four: arguments | a key of the first job | its verdict | the read | the
-// status | the end of each row
+// One file is not found, with one worker and with four: arguments | a key of the first job | its verdict | the read that fails | the status
+// | the end of each row
 const FAILED_READS: &str = "\
 8|0|rvfleet $0|
 [[job]]
@@ -169,8 +169,8 @@ fault breakpoint pc=80000000 value=00000000/steps 0 | budget/steps 2 | refused s
 refused image-unreadable/steps 0/console -/signature -
 ";
 
-// A read ends the program, and nothing is written to standard output: arguments | a key of the first job | how many files are not found,
-// and the paths that are read | the read that fails | the error output
+// One failed read ends the program, and nothing is written to standard output: arguments | a key of the first job | how many files are not
+// found, and the paths that are read | the read that fails | the error output
 const ENDS: &str = "\
 12|0|rvfleet $0|
 [[job]]
@@ -221,7 +221,7 @@ run jobs --workers 1 | expect_exit = 5 | 0;jobs;a.elf;f.elf;cut.elf;s.elf; | no_
 run jobs --workers 4 --group 2 | expect_exit = 5 | 0;jobs;a.elf;f.elf;cut.elf;s.elf; | no_memory=5 | out of memory
 ";
 
-// The report of a list does not depend on the number of workers, and each unreadable file has its row.
+// The report of a list does not depend on the number of workers, and each file that cannot be read is reported.
 #[test]
 fn reports_do_not_depend_on_workers(rt: HostRuntime) -> Result<(), Fail> {
     check(&rt, rt.alloc(), &[REPORTED, FAILED_READS, ENDS])

@@ -1,10 +1,10 @@
-//! The text of a row, moved out of it.
+//! Moving the text of a row out of its value.
 
 use rvfleet_app::Text;
 use std::alloc::{AllocError, Global};
 use std::test::Fail;
 
-// Whether a text is unchanged when its string is moved out of it.
+// Whether a text is unchanged after its string was moved out.
 fn is_unchanged(alloc: Global) -> Result<bool, AllocError> {
     let name = Text::new(String::from_str(alloc, "raw")?);
     Ok(name.into_string().as_str() == "raw")

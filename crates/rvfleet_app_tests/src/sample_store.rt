@@ -1,4 +1,4 @@
-//! A store whose files are samples.
+//! A store of sample files.
 
 ghost use Rattle.std.specs.Prelude.{None};
 
@@ -8,10 +8,10 @@ use rvfleet_app::{ReadError, Store};
 use samples::{CHECKSUM, SampleError, UPPER, file_bytes, numbers, sample_file};
 use std::alloc::Global;
 
-/// A store that makes each file of a case when it is read. A line of its files, such as `image = one 51`, describes the file at a path;
-/// without such a line, the list is at `jobs`, and any other path describes its own file: `bytes` and numbers, `upper` or `checksum` for
-/// the example firmware, or an image by a line of words. What follows a `#` is ignored. There is no file at `missing`, and `long` is too
-/// long.
+/// A store that makes each file of a case when it is read. A line of the case's files, such as `image = one 51`, describes the file at a
+/// path. Without such a line, the list is at `jobs`, and any other path describes its own file: `bytes` and numbers, `upper` or `checksum`
+/// for the example firmware, or the words of an image. What follows a `#` is ignored. There is no file at `missing`, and the file at `long`
+/// is too long.
 #[derive(Drop)]
 pub(crate) struct SampleStore<'a> {
     case: &'a str,
@@ -32,7 +32,7 @@ impl<'a> SampleStore<'a> {
         }
     }
 
-    // Returns the bytes of the file at a path, or an error if this read must fail.
+    // Returns the bytes of the file at a path, or an error if this read fails.
     fn bytes(&self, alloc: Global, path: &str) -> Result<Vec<u8>, SampleError> {
         let faults = part(self.case, 5);
         if self.reads == number(faults, "no_memory=") {
@@ -76,7 +76,7 @@ impl<'a> Store for SampleStore<'a> {
 
     ghost fault_count = { λ store. store.faults };
 
-    // Records the path, and returns the bytes of the file at it, or an error.
+    // Records the path, and returns the bytes of the file, or an error.
     fn read(&mut self, alloc: Global, path: &str) -> Result<Vec<u8>, ReadError> {
         self.reads = self.reads.saturating_add(1);
         if self.log.push_str(path).is_err() || self.log.push_str(";").is_err() {
@@ -93,7 +93,7 @@ impl<'a> Store for SampleStore<'a> {
         }
     }
 
-    // Returns how many reads found a file unreadable.
+    // Returns how many reads failed.
     fn faults(&self) -> u64 {
         self.faults
     }

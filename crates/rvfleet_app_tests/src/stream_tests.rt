@@ -13,7 +13,7 @@ struct CountingWriter {
 }
 
 impl Write for CountingWriter {
-    // Counts the write, and accepts bytes, or fails if it is the write that must fail.
+    // Counts the write, and accepts bytes, or fails if this is the write that fails.
     fn write(&mut self, bytes: &[u8]) -> io::Result<usize> {
         self.writes = self.writes.saturating_add(1);
         if self.writes == self.fails_at {
@@ -22,7 +22,7 @@ impl Write for CountingWriter {
         Ok(bytes.len().min(4))
     }
 
-    // Counts the flush, and fails if flushes must fail.
+    // Counts the flush, and fails if flushes fail.
     fn flush(&mut self) -> io::Result<()> {
         self.flushes = self.flushes.saturating_add(1);
         if self.flush_fails {

@@ -1,4 +1,4 @@
-//! Readers and sinks in memory, and the program's output with them as one text.
+//! Readers and sinks in memory, and what the program does with them as one text.
 
 ghost use Rattle.std.specs.Prelude.{Some};
 
@@ -9,14 +9,14 @@ use std::sync::Wait;
 use std::test::Fail;
 use std::thread::Threads;
 
-/// Returns the number after a name, such as `put_most=`, in a text of words; the greatest number if the name does not occur.
+/// Returns the number after a name, such as `put_most=`, in a text of words; the greatest number if the text does not have the name.
 pub(crate) fn number(faults: &str, name: &str) -> usize {
     let (_, rest) = faults.split_once(name).unwrap_or(("", ""));
     let number = rest.split(' ').next().unwrap_or("");
     number.parse::<usize>().unwrap_or(usize::MAX)
 }
 
-/// A sink over memory that accepts a limited number of bytes per write, and fails once, after a number of successful writes.
+/// A sink in memory that accepts a limited number of bytes per write, and fails once, after a number of successful writes.
 #[derive(Drop)]
 pub(crate) struct MemorySink {
     bytes: Vec<u8>,
@@ -50,7 +50,7 @@ impl Sink for MemorySink {
 
     ghost failure_count = { λ sink. sink.failures };
 
-    // Accepts leading bytes, or fails if it is the write that must fail.
+    // Accepts the first bytes, or fails if this is the write that fails.
     fn put(&mut self, bytes: &[u8]) -> Result<usize, SinkFailed> {
         let count = bytes.len().min(self.most.max(1));
         let fails = self.puts == self.fails_after && self.failures == 0;
@@ -68,7 +68,7 @@ impl Sink for MemorySink {
     }
 }
 
-// A reader that returns a limited number of bytes per read, and fails at its end if requested.
+// A reader that returns a limited number of bytes per read and, if requested, fails at the end of the input.
 #[derive(Drop)]
 struct MemoryReader<'a> {
     bytes: &'a [u8],
@@ -90,7 +90,7 @@ impl<'a> Read for MemoryReader<'a> {
     }
 }
 
-/// The standard input, the standard output and the error output of a run.
+/// The standard streams of a run.
 #[derive(Drop)]
 pub(crate) struct Streams<'a> {
     input: MemoryReader<'a>,
@@ -144,7 +144,7 @@ impl<'a> Streams<'a> {
     }
 }
 
-// Returns the words of a command line, which single spaces separate.
+// Returns the words of a command line, which are separated by single spaces.
 fn args_of(alloc: Global, line: &str) -> Result<Vec<&str>, AllocError> {
     let mut words = Vec::new(alloc);
     for word in line.split(' ') {
@@ -153,7 +153,7 @@ fn args_of(alloc: Global, line: &str) -> Result<Vec<&str>, AllocError> {
     Ok(words)
 }
 
-/// Runs the program with a store that records no paths, and without input, and returns the output as one text.
+/// Runs the program without input, with a store that does not record paths, and returns the output as one text.
 pub(crate) fn output_with_store<S: Store>(
     rt: &(impl Threads + Wait),
     alloc: Global,

@@ -3,7 +3,7 @@
 use crate::cases::check;
 use std::test::Fail;
 
-// label | jobs | the status and the verdicts. The file `lines` is the reference that the signature of `s.elf` matches.
+// label | jobs | the status and the verdicts. The file `lines` is a golden signature that matches `s.elf`.
 const VERDICTS: &str = "\
 24|verdict|rvfleet run jobs --workers 2|job = [$1]|a.elf = one
 f.elf = code 9002
@@ -66,7 +66,7 @@ all three but the other job | {name = '0', image = 's.elf', budget = 5, $S}, {na
 budget = 100, $S, expect_exit = 0, expect_signature = 'lines', same_as = '0'} | 1 none fail done 2
 ";
 
-// Jobs whose references were not read are refused before their images are checked.
+// Jobs whose golden signatures could not be read are refused before their images are checked.
 const TWO_REFUSED: &str = "\
 1|1|rvfleet run jobs|job = [$_]|s.elf = sign
 cut.elf = one 51
@@ -89,7 +89,7 @@ done 2/
 {name = '1', image = 'cut.elf', budget = 9, $S, expect_signature = 'long'}
 ";
 
-/// A job whose reference is missing is refused, although its exit code would be the one that it expects.
+/// A job whose golden signature is missing is refused, although it would have the expected exit code.
 const ONE_REFUSED: &str = "\
 1|1|rvfleet run jobs|job = [$_]|s.elf = sign
 cut.elf = one 51
@@ -105,7 +105,7 @@ done 1/
 {name = '0', image = 's.elf', budget = 100, $S, expect_signature = 'none', expect_exit = 0}
 ";
 
-// A job that ends with each kind of fault, and one job of each kind that names it: the kind | the image of the first job, with one more
+// A job that ends with each kind of fault, and one job for each kind that expects it: the kind | the image of the first job, with one more
 // instruction | a key | the verdicts
 const KINDS: &str = "\
 11|verdict|rvfleet run jobs|job = [{name = '0', image = '$1', budget = 300000$2}, \
@@ -136,7 +136,7 @@ unknown-call | code 00000013 04000893 00000073 |  | fail fail fail fail fail fai
 fetch-misaligned | code 00000013 0020006f | , isa = 'rv32im' | fail fail fail fail fail fail fail fail fail fail pass
 ";
 
-// All other jobs name the first one. The rows of this table and of the next ones are numbers of jobs in a chunk.
+// All other jobs are compared with the first one. The rows of this table and of the next ones are numbers of jobs claimed at once.
 const NAMED_BY_MANY: &str = "\
 3|verdict|rvfleet run jobs --workers 2 --group $0|job = [{name = '0', image = 'one', budget = 3}, {name = '1', image \
 = 'one', budget = 4, same_as = '0'}, \
@@ -149,7 +149,7 @@ const NAMED_BY_MANY: &str = "\
 4096
 ";
 
-// Each job names the one before.
+// Each job is compared with the one before.
 const NAMED_THE_ONE_BEFORE: &str = "\
 3|verdict|rvfleet run jobs --workers 2 --group $0|job = [{name = '0', image = 'one', budget = 3}, {name = '1', image \
 = 'one', budget = 3, same_as = \
@@ -163,7 +163,7 @@ const NAMED_THE_ONE_BEFORE: &str = "\
 4096
 ";
 
-// Two jobs are named in turn.
+// The jobs are compared with two jobs in turn.
 const NAMED_BY_TURNS: &str = "\
 3|verdict|rvfleet run jobs --workers 2 --group $0|job = [{name = '0', image = 'one', budget = 3}, {name = '1', image \
 = 'one', budget = 1}, {name = '2', \
@@ -177,7 +177,7 @@ image = 'one', budget = 1, same_as = '0'}, {name = '5', image = 'one', budget = 
 4096
 ";
 
-// Two jobs name a refused one.
+// Two jobs are compared with a refused one.
 const NAMED_REFUSED: &str = "\
 3|verdict|rvfleet run jobs --workers 2 --group $0|job = [{name = '0', image = 'one 83', budget = 3}, {name = '1', \
 image = 'one 83', budget = 3, same_as = '0'}, \
@@ -190,7 +190,7 @@ image = 'one 83', budget = 3, same_as = '0'}, \
 4096
 ";
 
-// The images `falls` and `zeros` print 65,536 bytes, each one less than the one before, or all zero.
+// The images `falls` and `zeros` print 65,536 bytes: each one less than the one before, or all zero.
 const NAMED_FULL_CONSOLES: &str = "\
 3|verdict|rvfleet run jobs --workers 2 --group $0|job = [{name = '0', image = 'falls', budget = 200000}, {name = \
 '1', image = 'falls', budget = 200000, \
@@ -205,7 +205,7 @@ zeros = code 100002b7 00010337 0002a023 fff30313 fe031ce3 X
 4096
 ";
 
-// More jobs are named than outcomes are cached.
+// The jobs are compared with more jobs than there are cached outcomes.
 const NAMED_MORE_THAN_KEPT: &str = "\
 3|verdict|rvfleet run jobs --workers 2 --group $0|job = [{name = '0', image = 'one', budget = 3}, {name = '1', image \
 = 'one', budget = 1}, {name = \
@@ -223,7 +223,7 @@ const NAMED_MORE_THAN_KEPT: &str = "\
 4096
 ";
 
-// The verdict of a job follows from its outcome, what it expects, and the outcome of the job that it names.
+// The verdict on a job follows from its outcome, its expectations, and the outcome of the job with which it is compared.
 #[test]
 fn judges_outcomes(rt: HostRuntime) -> Result<(), Fail> {
     check(

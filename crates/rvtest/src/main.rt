@@ -1,4 +1,4 @@
-//! The program `rvtest`: passes the process's own arguments, files and streams to the library, and exits with its status.
+//! The program `rvtest`: passes the arguments, files and streams of the process to the library, and exits with the status that it returns.
 #![tactic(auto)]
 
 use rvtest_app::{
@@ -10,7 +10,7 @@ use std::io::IsTerminal;
 use std::process::ExitCode;
 use std::{env, io};
 
-// Responds to the process's own arguments, with its own streams and files.
+// Runs the program with the arguments, streams and files of the process.
 fn main(rt: HostRuntime) -> ExitCode {
     let (out, mut errors) = (PipeSink::new(rt.stdout()), StreamSink::new(rt.stderr()));
     let texts = match process_args(&rt) {
@@ -45,7 +45,7 @@ fn is_set(rt: &(impl Env + AllocGlobal), name: &str) -> bool {
     }
 }
 
-// Whether the terminal declares that it supports only text.
+// Whether the terminal has no colors and no cursor movement (`TERM` is `dumb`).
 fn is_terminal_dumb(rt: &(impl Env + AllocGlobal)) -> bool {
     match env::var(rt, "TERM") {
         Ok(text) => text.as_str() == "dumb",
@@ -53,7 +53,7 @@ fn is_terminal_dumb(rt: &(impl Env + AllocGlobal)) -> bool {
     }
 }
 
-// Returns the process's own arguments.
+// Returns the arguments of the process.
 fn process_args(rt: &(impl Env + AllocGlobal)) -> io::Result<Vec<String>> {
     let mut texts = Vec::new(rt.alloc());
     for text in env::args(rt)? {

@@ -1,4 +1,4 @@
--- The row of an accepted job when `run` reads the files that `accept` wrote.
+-- The row of an accepted job in a `run` that reads the files that `accept` wrote.
 use Rattle.std.specs.Prelude.{◌≡◌, ◌⊎◌, ℕ, Bool, true, false, IfSome, IsFalse, IsTrue, List, Ok, Some, None, slice_get}
 use Rattle.std.specs.List.{All, Any}
 use Rattle.rv_accept.specs.Sharing.{names_golden_file}
@@ -23,30 +23,29 @@ use Rattle.rv_rows.specs.declared_row.Row.{Row}
 use Rattle.rv_rows.specs.Rows.{row_of}
 use Rattle.rvtest_app.specs.Runs.{IsPlanFor}
 
--- ---- the store
+-- ---- the file system
 
--- the store `after` is the store `before` once the files `written` have been written
+-- the contents of files `before` become the contents `after` when the files `written` are written
 pub record IsStoreAfter (written : List CommittedFile) (before after : FileContents) : Type 0 where
-  -- the file that a path leads to; links give one file several paths
+  -- the file to which a path leads; with links, several paths lead to one file
   pub leads : List ℕ → List ℕ
   -- paths that lead to one file had equal contents before
   pub same_before : (path other : List ℕ) → leads path ≡ leads other → before path ≡ before other
-  -- paths that lead to one file have equal contents afterwards
+  -- paths that lead to one file have equal contents after
   pub same_after : (path other : List ℕ) → leads path ≡ leads other → after path ≡ after other
-  -- the new store has the bytes of each written file
+  -- each written file has its new contents
   pub written_contents : All (λ file. after file.path ≡ Some file.bytes) written
-  -- a path that leads to no written file keeps its contents
+  -- each path leads to a written file or keeps its contents
   pub others : (path : List ℕ) → (after path ≡ before path) ⊎ Any (λ file. leads file.path ≡ leads path) written
 
--- any two of the golden files whose resolved paths `leads` maps to the same file have equal outcomes, so both get the same new text
+-- golden files whose paths lead to one file, as `leads` says, all get the same text
 abbrev pub HaveOneTextPerFile : (List ℕ → List ℕ) → List GoldenFile → Type 0
 HaveOneTextPerFile leads files = All (λ (file : GoldenFile). All (λ (other : GoldenFile).
     leads file.resolved_path ≡ leads other.resolved_path → file.target.outcome ≡ other.target.outcome) files) files
 
 -- ---- the job
 
--- `job` is the job at index `index` of the list in the summary `summary`; it was accepted, none of its golden files was skipped, and it has
--- no `same_as`
+-- `job` is at index `index` of the list in the summary; it was accepted, none of its golden files was skipped, and it has no `same_as`
 pub record IsFullyAccepted (summary : AcceptSummary) (index : ℕ) (job : Job) : Type 0 where
   -- the job is at index `index` of the list
   pub at_index : slice_get summary.list.jobs.now index ≡ Some job
@@ -57,19 +56,19 @@ pub record IsFullyAccepted (summary : AcceptSummary) (index : ℕ) (job : Job) :
 
 -- ---- the run
 
--- whether the file was read, so that its contents are stored
+-- whether the file was read successfully
 abbrev pub is_read : Kept → Bool
 is_read (kept.Content bytes) = true
 is_read _ = false
 
--- `results` has the contents of the job's image and of each of its expectation files
+-- the image of the job and each of its expectation files was read, which `results` says
 pub record AreFilesRead (results : List PathResult) (job : Job) : Type 0 where
   pub image : IsTrue (is_read (result_or_unreadable results job.image))
   pub signature : IfSome job.expect_signature (λ path. IsTrue (is_read (result_or_unreadable results path)))
   pub console : IfSome (console_path job.expect_console) (λ path. IsTrue (is_read (result_or_unreadable results path)))
 
--- `row` is the row of the job at index `index` when the list at the path in `args` runs with the files of `store`, and all files of the
--- job were read
+-- `row` is the row of the job at index `index` of the list at the path in `args`, when it runs with the files of `store` and all its files
+-- could be read
 pub record IsRowOfRun (store : FileContents) (args : RunArgs) (index : ℕ) (row : Row) : Type 0 where
   pub bytes : List ℕ
   pub read : IsTextAt (Some store) args.list.now bytes

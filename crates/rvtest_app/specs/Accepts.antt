@@ -1,4 +1,4 @@
--- What `accept` runs, reports and writes.
+-- What `accept` runs, shows and writes.
 use Rattle.std.specs.Prelude.{◌==◌, ◌≡◌, ◌&&◌, ◌++◌, ℕ, Bool, true, false, List, [], ◌∷◌, Option, Some, None, IfSome, Ok, ⊤, fold, if◌then◌else◌, length, map, option_map}
 use Rattle.std.specs.Io.KnownBytes.{Appends}
 use Rattle.std.specs.List.{flat_map}
@@ -50,8 +50,8 @@ abbrev pub acceptance_of : Bool → Acceptance
 acceptance_of true = acceptance.ExpectedKind
 acceptance_of false = acceptance.Expected
 
--- `rows` are the rows of the selected jobs of the list `bare`, each at the index of its job, with the files read from the store; `note` is
--- the note about missing images
+-- `rows` has one entry per job of the list `bare`: the row of a selected job, `None` for any other job. The files of the jobs have these
+-- contents; `note` is the note about missing images.
 pub record AreRowsOfSelected (contents : Option FileContents) (root : Option (List ℕ)) (bare : List Job) (selection : List Bool)
     (rows : List (Option Row)) (note : List ℕ) : Type 0 where
   pub plan : PlanView
@@ -60,7 +60,7 @@ pub record AreRowsOfSelected (contents : Option FileContents) (root : Option (Li
   pub indexed : rows ≡ indexed_rows selection (rows_at plan (selected_job_indices selection))
   pub note_is : note ≡ missing_images_note plan.jobs unread (length (selected_job_indices selection)) root
 
--- `rows` are the rows of the selected jobs; nothing but the note about missing images was output, and it went to standard error
+-- `rows` are the rows of the selected jobs, and only the note about missing images was written, to standard error
 pub record HaveSelectedRun (contents : Option FileContents) (root : Option (List ℕ)) (bare : List Job) (selection : List Bool)
     (rows : List (Option Row)) (before after : CommandOutputs) : Type 0 where
   pub note : List ℕ
@@ -69,27 +69,26 @@ pub record HaveSelectedRun (contents : Option FileContents) (root : Option (List
 
 -- ---- the files
 
--- `old` is the contents of the file at the path, or `None` if there is no file; any `old` will do if the contents of files are not known
+-- `old` is what the file at the path contains, or `None` if it does not exist; any `old` will do if the contents of files are not known
 abbrev pub IsOldContentsAt : Option FileContents → List ℕ → Option (List ℕ) → Type 0
 IsOldContentsAt contents path old = IfSome contents (λ files. files path ≡ old)
 
--- `file` is the golden file of `target`: it has the target's path, resolved against `root`, and the contents of the file there
+-- `file` is the golden file of `target`, with its path resolved against `root` and its current contents
 pub record IsGoldenFile (contents : Option FileContents) (root : Option (List ℕ)) (target : Target) (file : GoldenFile)
     : Type 0 where
   pub same_target : file.target ≡ target
   pub resolved : file.resolved_path ≡ resolved_path root target.path
-  -- the old contents are those of the file there
+  -- the old contents are what the file at the resolved path contains
   pub old_contents : IsOldContentsAt contents file.resolved_path file.old
 
--- the files are the golden files of the targets, in order: with the targets' paths, resolved against `root`, and the contents of the files
--- there
+-- the files are the golden files of the targets, in order, with their paths resolved against `root` and their current contents
 abbrev pub AreGoldenFiles : Option FileContents → Option (List ℕ) → List Target → List GoldenFile → Type 0
 AreGoldenFiles contents root [] [] = ⊤
 AreGoldenFiles contents root (target ∷ targets) (file ∷ files) =
     IsGoldenFile contents root target file × AreGoldenFiles contents root targets files
 AreGoldenFiles contents root _ _ = ⊥
 
--- a list with one file, which has this path and text; empty if there is no text
+-- a file with this path and text if there is a text, else no file
 abbrev pub file_if_text : List ℕ → Option (List ℕ) → List CommittedFile
 file_if_text path None = []
 file_if_text path (Some text) = committed_file path text ∷ []
@@ -105,34 +104,34 @@ written_files summary = flat_map (λ file. file_if_text file.resolved_path (new_
 
 -- ---- the command
 
--- the exit status of `accept`: 0 if both `skipped`, the number of skipped jobs and files, and `changed`, the number of changes that
--- `--check` leaves unwritten, are 0; otherwise 1
+-- the exit status of `accept`: 0 if no job or file was skipped and `--check` found no change, otherwise 1; `changed` is the number of
+-- changes that `--check` does not write
 abbrev pub accept_status : ℕ → ℕ → ℕ
 accept_status skipped changed = if skipped == 0 && changed == 0 then 0 else 1
 
--- `summary` summarizes `accept` for the list with the text `bytes` and the jobs `jobs`; it has the runs in `judged`, of which some more may
--- be skipped
+-- `summary` is what `accept` shows about the list with the text `bytes` and the jobs `jobs`; its runs are those in `judged`, of which more
+-- can be skipped
 pub record IsAcceptOutcome (contents : Option FileContents) (args : AcceptArgs) (bytes : List ℕ) (jobs : List Job)
     (judged : List (Option JobRun)) (summary : AcceptSummary) : Type 0 where
   pub path : summary.list.path.now ≡ args.run.list.now
   pub text : summary.list.text.now ≡ bytes
   pub listed : summary.list.jobs.now ≡ jobs
-  -- runs that are accepted in `judged` may be skipped in the summary, but not the other way round
+  -- the runs in `judged`, of which some that were accepted can be skipped; a skipped run stays skipped
   pub runs : AreSkippedFrom judged summary.runs.now
-  -- the text that each accepted or skipped run gives to each golden file of its job
+  -- the text that each run, accepted or skipped, has for each golden file of its job
   pub golden_texts : summary.golden_texts.now ≡ golden_texts_of_runs 0 jobs summary.runs.now
-  -- the golden files of the accepted jobs, with their old contents
+  -- the golden files of the jobs that were accepted or skipped, with their old contents
   pub files : AreGoldenFiles contents (optional_text args.run.root)
       (fold (with_target summary.runs.now summary.golden_texts.now) [] summary.golden_texts.now) summary.files.now
-  -- a new list is the old one with some edits
+  -- a new list is the old one after some edits
   pub edited : IfSome summary.new.now.text (λ text. (edits : List Edit) × (text.items ≡ edited_rest 0 bytes edits))
-  -- a new list parses as the intended jobs
+  -- a new list has the intended jobs
   pub intended : IfSome summary.new.now.text (λ text. job_list_of text.items ≡ Ok (intended_jobs jobs summary.runs.now))
-  -- without a new list, the intended jobs are those of the old list
+  -- if there is no new list, the old one has the intended jobs already
   pub unchanged : summary.new.now.text ≡ None → intended_jobs jobs summary.runs.now ≡ jobs
 
--- the summary `summary` was written: its lines and its last line to standard output and, if the Bool is false, the changed files to their
--- paths; if it is true (`--check`), no file was written; `status` is the exit status
+-- the lines of the summary and its last line were written to standard output; then, if the Bool (`--check`) is false, the changed files
+-- were written to their paths. `status` is the exit status.
 abbrev pub IsAcceptanceWritten : Bool → AcceptSummary → ℕ → CommandOutputs → CommandOutputs → Type 0
 IsAcceptanceWritten true summary status before after =
     (status ≡ accept_status (skipped_count summary) (changed_count summary))
@@ -148,30 +147,30 @@ abbrev pub IsAcceptSummaryOf : ListFile → List (Option JobRun) → List Golden
 IsAcceptSummaryOf list runs golden_texts files new summary = (summary.list ≡ list) × (summary.runs.now ≡ runs) × (summary.golden_texts.now ≡ golden_texts)
     × (summary.files.now ≡ files) × (summary.new.now ≡ new)
 
--- the summary that consists of this list, these runs, golden texts and golden files, and this new list was written; with `check`, no file
--- was written
+-- the summary of this list, these runs, golden texts and golden files, and this new list was written; with `check`, no file was written
 pub record AreChangesWritten (check : Bool) (list : ListFile) (runs : List (Option JobRun)) (golden_texts : List GoldenText)
     (files : List GoldenFile) (new : NewList) (status : ℕ) (before after : CommandOutputs) : Type 0 where
   pub summary : AcceptSummary
   pub parts : IsAcceptSummaryOf list runs golden_texts files new summary
   pub written : IsAcceptanceWritten check summary status before after
 
--- only `message`, the warnings about golden files outside of the directory, was output, to standard error; it is empty if the outputs
--- report the committed files
+-- only the warnings about golden files outside of the directory were written, to standard error; there are none if the committed files are
+-- known
 pub record AreOutsideFilesReported (before after : CommandOutputs) : Type 0 where
   pub message : List ℕ
   pub message_is_empty : IfSome before.committed (λ _. message ≡ [])
   pub reported : IsOnlyErrorOutput message before after
 
--- `judged` has the run of each job with a row, accepted or skipped according to whether the job is chosen and to the current verdict on it
+-- `judged` has the run of each job that has a row, with the decision to accept or to skip it: it follows from whether the job is chosen and
+-- from the current verdict on it
 pub record AreJudgedRuns (contents : Option FileContents) (args : AcceptArgs) (jobs : List Job) (chosen : List Bool)
     (rows : List (Option Row)) (judged : List (Option JobRun)) : Type 0 where
   pub candidates : List Candidate
   pub are_candidates : AreCandidates contents (optional_text args.run.root) rows jobs chosen candidates
   pub are_runs : judged ≡ judged_runs (acceptance_of args.ends) jobs candidates rows
 
--- `accept` reported the golden files outside of the directory, ran the chosen jobs and the jobs that these need, without their
--- expectations, and wrote the summary of the runs
+-- `accept` wrote the warnings about golden files outside of the directory, ran the chosen jobs and the jobs that they are compared with,
+-- without expectations, and wrote the summary and the changed files
 pub record IsAcceptOfSelected (contents : Option FileContents) (args : AcceptArgs) (bytes : List ℕ) (jobs : List Job)
     (chosen : List Bool) (status : ℕ) (before after : CommandOutputs) : Type 0 where
   pub after_check : CommandOutputs
@@ -186,14 +185,15 @@ pub record IsAcceptOfSelected (contents : Option FileContents) (args : AcceptArg
   pub summarized : IsAcceptOutcome contents args bytes jobs runs summary
   pub written : IsAcceptanceWritten args.check summary status after_run after
 
--- `accept` accepted the results of the chosen jobs; if no job is chosen (`None`), the status is 0 and nothing was output
+-- `accept` accepted the results of the chosen jobs; if there are none (`None`), the status is 0 and nothing was written
 abbrev pub IsAcceptedOfChosen : Option FileContents → AcceptArgs → List ℕ → List Job → Option (List Bool) → ℕ
     → CommandOutputs → CommandOutputs → Type 0
 IsAcceptedOfChosen contents args bytes jobs None status before after = (status ≡ 0) × (after ≡ before)
 IsAcceptedOfChosen contents args bytes jobs (Some chosen) status before after =
     IsAcceptOfSelected contents args bytes jobs chosen status before after
 
--- `accept` read the list at the path in the arguments, wrote the notes about the choice to standard error, and accepted the chosen jobs
+-- `accept` read the list at the path in the arguments, wrote the notes about the choice to standard error, and accepted the results of the
+-- chosen jobs
 pub record IsAcceptedAt (contents : Option FileContents) (args : AcceptArgs) (status : ℕ) (before after : CommandOutputs)
     : Type 0 where
   pub bytes : List ℕ

@@ -1,5 +1,5 @@
--- What `check` reports for a list without errors: a line for each file that makes a job refused, a warning for each job that expects two
--- ends, a note about the directory that paths are resolved against if every image is missing, and a line that counts both kinds of jobs.
+-- What `check` writes about a list without errors: a line for each file because of which a job is refused, a warning for each job that
+-- expects two ends, a note if the images of all jobs are missing, and a line of totals.
 use Rattle.std.specs.Prelude.{◌==◌, ◌+◌, ℕ, List, [], ◌++◌, Option, Some, None, codes, if◌then◌else◌, length, option_map}
 use Rattle.std.specs.Prelude.{slice_get, unwrap_or}
 use Rattle.std.specs.Fmt.{decimal}
@@ -40,33 +40,33 @@ abbrev pub path_and_line : List ℕ → Option ℕ → List ℕ
 path_and_line path None = printable_text path
 path_and_line path (Some number) = printable_text path ++ codes ":" ++ decimal number
 
--- the prefix of a line of `check`: where the job at index `index` begins, the severity, and the job's number from 1 and its name
+-- the beginning of a line about the job at index `index`: the list and the line on which the job begins, the severity, and the number,
+-- counted from 1, and name of the job
 unfoldable pub job_prefix : List ℕ → List ℕ → List ℕ → ℕ → Job → List ℕ
 job_prefix severity path lines index job =
     path_and_line path (slice_get lines index) ++ severity ++ codes " job " ++ decimal (index + 1) ++ codes " \"" ++ job.name ++ codes "\": "
 
 -- ---- a job that is refused
 
--- "refused" and the name of the refusal, followed by details if they are given
+-- "refused" and the name of the refusal, followed by the reason if it is given
 abbrev pub refusal_text : Refusal → Option (List ℕ) → List ℕ
 refusal_text refusal reason = codes "refused " ++ refusal_name refusal ++ optional_reason_text reason
 
--- the error line for a file that makes the job at index `index` refused, with the refusal and, if they are given, its details
+-- the error line for a file because of which the job at index `index` is refused, with the refusal and, if it is given, the reason
 unfoldable pub refused_file_line : List ℕ → List ℕ → ℕ → Job → Refusal → Option (List ℕ) → List ℕ
 refused_file_line path lines index job refusal reason = line (job_prefix (codes ": error:") path lines index job ++ refusal_text refusal reason)
 
--- the error line for the job at index `index`, whose image makes it refused
+-- the error line for the job at index `index`, which is refused because of its image
 abbrev pub refused_image_line : List ℕ → List ℕ → PlanView → List UnreadablePath → ℕ → Job → Refusal → List ℕ
 refused_image_line path lines plan unread index job refusal =
     refused_file_line path lines index job refusal (refusal_reason plan.results unread job refusal)
 
--- the error line for the job at index `index` if its image makes it refused; otherwise empty
+-- the error line for the job at index `index` if it is refused because of its image; otherwise empty
 abbrev pub refused_image_text : List ℕ → List ℕ → PlanView → List UnreadablePath → ℕ → Job → List ℕ
 refused_image_text path lines plan unread index job =
     unwrap_or (option_map (refused_image_line path lines plan unread index job) (image_refusal_in plan.results job)) []
 
--- the error line for the expectation file `file` of a job, given what was stored for its path: empty if the file was read, and otherwise
--- the reason why it was not
+-- the error line for the expectation file `file` of a job, with the reason why it could not be read; empty if it was read
 abbrev pub unread_reference_text : List ℕ → List ℕ → List UnreadablePath → ℕ → Job → Option Kept → Option (List ℕ) → List ℕ
 unread_reference_text path lines unread index job (Some kept.Unreadable) (Some file) =
     refused_file_line path lines index job refusal.ReferenceUnreadable (Some (unread_file_text unread file))
@@ -74,12 +74,13 @@ unread_reference_text path lines unread index job (Some kept.TooLong) (Some file
     refused_file_line path lines index job refusal.ReferenceTooLong (Some (too_long_file_text file))
 unread_reference_text path lines unread index job _ _ = []
 
--- the error line for a job's expectation file; empty if it was read or none is named
+-- the error line for an expectation file of a job; empty if it was read or the job names none
 abbrev pub reference_text : List ℕ → List ℕ → PlanView → List UnreadablePath → ℕ → Job → Option (List ℕ) → List ℕ
 reference_text path lines plan unread index job file =
     unread_reference_text path lines unread index job (option_map (result_or_unreadable plan.results) file) file
 
--- the error lines for a job's image and for the files with its expected signature and console
+-- the error lines for the files because of which a job is refused: its image, the file of its expected signature, and that of its expected
+-- console output
 unfoldable pub refused_files_text : List ℕ → List ℕ → PlanView → List UnreadablePath → ℕ → Job → List ℕ
 refused_files_text path lines plan unread index job = refused_image_text path lines plan unread index job
     ++ (reference_text path lines plan unread index job job.expect_signature
@@ -90,25 +91,25 @@ unfoldable pub refused_job_text : List ℕ → List ℕ → PlanView → List Un
 refused_job_text path lines plan unread index job =
     if is_job_refused plan job then refused_files_text path lines plan unread index job else []
 
--- ---- a job that expects two ends
+-- ---- a job that expects both an exit code and another end
 
--- the name of the end that a job expects, as the list writes it
+-- the name that a list uses for an expected end: the name of the fault, or "budget"
 abbrev pub expected_end_name : Option ExpectedEnd → List ℕ
 expected_end_name (Some (expected.Fault kind)) = fault_name kind
 expected_end_name _ = codes "budget"
 
--- the text of the warning that a job expects both an exit code and another end, so that it never passes
+-- the text of the warning for a job that expects both an exit code and another end and therefore never passes
 abbrev pub two_ends_text : Option ℕ → Option ExpectedEnd → List ℕ
 two_ends_text code end = codes "expect_exit = " ++ decimal (unwrap_or code 0)
     ++ codes " with expect_end = \"" ++ expected_end_name end
     ++ codes "\": a run ends in only one way, so the job never passes"
 
--- the warning line for a job that expects two ends
+-- the warning line for a job that expects both an exit code and another end
 unfoldable pub two_ends_line : List ℕ → List ℕ → ℕ → Job → List ℕ
 two_ends_line path lines index job =
     line (job_prefix (codes ": warning:") path lines index job ++ two_ends_text job.expect_exit job.expect_end)
 
--- the warning line for a job that expects two ends; empty for any other job
+-- the warning line for a job that expects both an exit code and another end; empty for any other job
 unfoldable pub warned_job_text : List ℕ → List ℕ → ℕ → Job → List ℕ
 warned_job_text path lines index job = if expects_two_ends job then two_ends_line path lines index job else []
 
@@ -130,12 +131,12 @@ job_counts_line jobs refused warned =
 
 -- ---- the text
 
--- the texts of all jobs, one after the other in list order; the function `text` returns the text of a job from its index and the job
+-- the texts of all jobs in list order, joined; `text` maps the index of a job and the job to its text
 abbrev pub texts_of_jobs : (ℕ → Job → List ℕ) → List Job → List ℕ
 texts_of_jobs text jobs = flat_map (λ entry. text entry.0 entry.1) (enumerate_from 0 jobs)
 
--- the output of `check` for the list with the path `path` and the text `text`, which has no errors; `root` is the directory of `--root`,
--- and `unread` are the files that could not be read
+-- what `check` writes about a list without errors, which has this path and text; `root` is the directory of `--root`, and `unread` are the
+-- files that could not be read
 unfoldable pub check_text : List ℕ → List ℕ → Option (List ℕ) → PlanView → List UnreadablePath → List ℕ
 check_text path text root plan unread = let lines = job_begin_lines text in
     texts_of_jobs (refused_job_text path lines plan unread) plan.jobs

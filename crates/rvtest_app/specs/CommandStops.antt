@@ -44,7 +44,7 @@ abbrev pub IsCheckStop : Option FileContents → CheckArgs → Stop → Type 0
 IsCheckStop contents args stop = IsListUnreadStop contents args.list.now stop
     ⊎ ((text : List ℕ) × (IsTextAt contents args.list.now text × IsListFaultStop args.list.now text stop))
 
--- why a command stopped: the text is not a valid list, or none of its jobs has this name; messages name the path
+-- why a command stopped: the text is not a valid list, or no job of it has this name; messages name the path
 abbrev pub IsNoJobStop : List ℕ → List ℕ → List ℕ → Stop → Type 0
 IsNoJobStop path text name stop = IsListFaultStop path text stop
     ⊎ ((jobs : List Job) × ((job_list_of text ≡ Ok jobs) × IsUnknownNameStop path jobs name stop))
@@ -59,24 +59,24 @@ abbrev pub IsConsoleStop : Option FileContents → ConsoleArgs → Stop → Type
 IsConsoleStop contents args stop = IsListUnreadStop contents args.list.now stop
     ⊎ ((text : List ℕ) × (IsTextAt contents args.list.now text × IsNoJobStop args.list.now text args.name.now stop))
 
--- why `gdb` could not open the job: the list could not be read or has an error, no job has the requested name, or the job is refused
+-- why `gdb` could not open a session: the list could not be read or has an error, no job has the requested name, or the job is refused
 abbrev pub IsUnopenedSessionStop : Option FileContents → GdbArgs → Stop → Type 0
 IsUnopenedSessionStop contents args stop = IsListUnreadStop contents args.list.now stop
     ⊎ ((text : List ℕ) × (IsTextAt contents args.list.now text
     × (IsNoJobStop args.list.now text args.name.now stop ⊎ IsUnopenedJobOfTextStop contents args text stop)))
 
--- why `gdb` did not start a session: standard output is a terminal, or the job could not be opened
+-- why `gdb` did not start a session: standard output is a terminal, or the session could not be opened
 abbrev pub IsSessionNotStartedStop : Option FileContents → Bool → GdbArgs → Stop → Type 0
 IsSessionNotStartedStop contents is_terminal args stop = ((is_terminal ≡ true) × IsNoGdbStop stop)
     ⊎ ((is_terminal ≡ false) × IsUnopenedSessionStop contents args stop)
 
--- why `gdb` stopped: it did not start a session, or the session ended with an error
+-- why `gdb` stopped: no session was started, or the session ended with an error
 abbrev pub IsGdbStop : Option FileContents → Bool → GdbArgs → Stop → Type 0
 IsGdbStop contents is_terminal args stop = IsSessionNotStartedStop contents is_terminal args stop
     ⊎ ((is_terminal ≡ false) × ((error : SessionError) × IsSessionErrorStop error stop))
 
--- `gdb` stopped: either it started no session and output nothing, or its session ended with an error, and the number of failed writes rose
--- by one if this error is a failed write, and did not change otherwise
+-- `gdb` stopped: either no session was started and nothing was written, or the session ended with an error; one more write failed if the
+-- error is a failed write, else none
 abbrev pub IsGdbStopped : Option FileContents → Bool → GdbArgs → Stop → CommandOutputs → CommandOutputs → ℕ → ℕ → Type 0
 IsGdbStopped contents is_terminal args stop before after failures_before failures_after =
     (IsSessionNotStartedStop contents is_terminal args stop × (after ≡ before))
@@ -88,16 +88,16 @@ IsNoChoiceStop contents args text stop = IsListFaultStop args.list.now text stop
     ⊎ ((jobs : List Job) × ((job_list_of text ≡ Ok jobs)
     × IsChoiceStop contents args (failure_rule args.lenient) jobs stop))
 
--- why `list` stopped: the list could not be read, it has an error, or choosing its jobs stopped
+-- why `list` stopped: the list could not be read or has an error, or its jobs could not be chosen
 abbrev pub IsListStop : Option FileContents → RunArgs → Stop → Type 0
 IsListStop contents args stop = IsListUnreadStop contents args.list.now stop
     ⊎ ((text : List ℕ) × (IsTextAt contents args.list.now text × IsNoChoiceStop contents args text stop))
 
--- why `accept` stopped: the jobs could not be chosen, or accepting them stopped
+-- why `accept` stopped: the jobs could not be chosen, or their results could not be accepted
 abbrev pub IsAcceptStop : Option FileContents → AcceptArgs → Stop → Type 0
 IsAcceptStop contents args stop = IsListStop contents args.run stop ⊎ IsUnacceptedStop contents args stop
 
--- why `diff` stopped: the old report could not be read, or it could, but the new one could not
+-- why `diff` stopped: the old report could not be read, or it was read but the new one could not be
 abbrev pub IsDiffAtStop : Option FileContents → DiffArgs → Stop → Type 0
 IsDiffAtStop contents args stop = IsRequestedUnreadStop contents args.partial args.old.now stop
     ⊎ ((old_report : PartialReport) × (IsReportReadAt contents args.partial args.old.now old_report
@@ -109,8 +109,8 @@ IsShowStop contents args stop = IsShowOverwriteStop args stop ⊎ (IsRequestedUn
     ⊎ ((report : PartialReport) × (IsReportReadAt contents args.partial args.report.now report
     × IsOutputStop None (optional_text args.junit) stop)))
 
--- why the requested command stopped; `explain`, `list` and other commands that only print a text stop for the reasons of their own
--- definition, or because a write to standard output failed
+-- why the requested command stopped. For commands that write one text, such as `explain` and `list`, a failed write to standard output is
+-- one reason more.
 abbrev pub IsCommandStop : Option FileContents → Bool → Request → Stop → Type 0
 IsCommandStop contents is_terminal (request.Explain args) stop = (stop ≡ stops.WriteFailed) ⊎ IsExplainStop contents args stop
 IsCommandStop contents is_terminal (request.List args) stop = (stop ≡ stops.WriteFailed) ⊎ IsListStop contents args stop
@@ -127,23 +127,22 @@ IsCommandStop contents is_terminal (request.Counts args) stop = IsCountsStop con
 IsCommandStop contents is_terminal (request.Cover args) stop = (stop ≡ stops.WriteFailed) ⊎ IsCoverStop contents args stop
 IsCommandStop contents is_terminal (request.Profile args) stop = (stop ≡ stops.WriteFailed) ⊎ IsProfileStop contents args stop
 
--- the arguments have an error other than a request for the help or the version
+-- the arguments have an error, and do not just request the help or the version
 abbrev pub AreInvalidArgs : List (List ℕ) → Type 0
 AreInvalidArgs args = (kind : WordsFault) × (IsAmong kind (args_error_kinds args) × (IsHelpRequested kind → ⊥))
 
--- the stop reports the misuse in the arguments, such as options that exclude each other, with its message; if there is no misuse, memory
--- ran out
+-- why the program stopped: the arguments are misused, such as options that exclude each other, or memory ran out
 abbrev pub IsMisuseStop : List (List ℕ) → Stop → Type 0
 IsMisuseStop args stop =
     MatchOption (args_misuse args) (stop ≡ stops.OutOfMemory) (λ misuse. IsUsageStop (misuse_text misuse) stop)
 
--- the arguments have an error, and the stop rejects them with status 2; if `clap` finds no error in them, the stop reports a misuse
+-- why the program stopped: the arguments have an error. The status is 2; if `clap` accepts the arguments, the message is about a misuse.
 pub record IsInvalidArgsStop (args : List (List ℕ)) (stop : Stop) : Type 0 where
   pub invalid : AreInvalidArgs args
   pub rejected : IsRejection stop
   pub misuse : args_errors args ≡ [] → IsMisuseStop args stop
 
--- the arguments stopped the program: memory ran out, the requested help could not be written, or the arguments are invalid
+-- why the program stopped at the arguments: memory ran out, the requested help could not be written, or the arguments are invalid
 abbrev pub IsArgsStop : List (List ℕ) → Stop → Type 0
 IsArgsStop args stop = (stop ≡ stops.OutOfMemory)
     ⊎ ((RequestHelp args × (stop ≡ stops.WriteFailed)) ⊎ IsInvalidArgsStop args stop)

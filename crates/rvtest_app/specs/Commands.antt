@@ -15,17 +15,17 @@ use Rattle.rv_job_text.specs.declared.verbosity.Verbosity.TheVariants.{Quiet, Fa
 use Rattle.rv_diff.specs.Diff.{differing_count}
 use Rattle.rv_diff.specs.declared.diff.DifferenceCounts.{DifferenceCounts}
 
--- the rule by which jobs fail: lenient with `--lenient`, and otherwise strict
+-- the rule that decides which rows are failures: lenient with `--lenient`, otherwise strict
 abbrev pub failure_rule : Bool → Rule
 failure_rule true = Lenient
 failure_rule false = Strict
 
--- how the rows of a report are judged: by the lenient rule if the Bool is true (`--lenient`), and otherwise by the strict rule; no job is
--- known to fail
+-- how the rows of a report are judged: by the lenient rule with `--lenient` (the Bool), otherwise by the strict rule; no job is known to
+-- fail
 abbrev pub report_judging : Bool → JudgeView
 report_judging is_lenient = judge_by_rule (failure_rule is_lenient)
 
--- the rows that are shown: none with `--quiet` (the second Bool), all with only `--verbose` (the first), and otherwise the failures
+-- which rows are shown: none with `--quiet` (the second Bool), all with `--verbose` (the first) alone, otherwise only the failures
 abbrev pub requested_verbosity : Bool → Bool → Verbosity
 requested_verbosity verbose true = Quiet
 requested_verbosity true false = All
@@ -43,7 +43,7 @@ is_job_refused plan job = is_some (refusal_in (outcome_in plan.results job).endi
 abbrev pub refused_job_count : PlanView → ℕ
 refused_job_count plan = length (filter (is_job_refused plan) plan.jobs)
 
--- the number of jobs of the plan that expect two ends, and so never pass
+-- the number of jobs of the plan that expect both an exit code and another end, and therefore never pass
 abbrev pub warned_job_count : PlanView → ℕ
 warned_job_count plan = length (filter expects_two_ends plan.jobs)
 

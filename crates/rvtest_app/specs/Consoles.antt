@@ -17,7 +17,7 @@ use Rattle.rvtest_app.specs.Commands.{passing_status}
 use Rattle.rvtest_app.specs.Reports.{HasEntryPerUnreadable, IsFirstJobNamed}
 use Rattle.rvtest_app.specs.CommandOutputs.{IsOnlyStandardOutput, IsOnlyErrorOutput, CommandOutputs}
 
--- `console` is the text that the job at index `index` printed, `line` is the line that reports its row, and `status` is the exit status
+-- `console` is the console output of the job at index `index`, `line` is its result line, and `status` is the exit status
 pub record IsJobConsole (contents : Option FileContents) (jobs : List Job) (index : ℕ) (console line : List ℕ) (status : ℕ)
     : Type 0 where
   pub plan : PlanView
@@ -32,8 +32,8 @@ pub record IsJobConsole (contents : Option FileContents) (jobs : List Job) (inde
   pub exit_status : (d : Job) → status ≡ passing_status
       (has_passed Strict (row_of plan (slice_index_or plan.jobs index d)))
 
--- `console`, `line` and `status` are the console, the result line and the exit status of the first job named `name` in the list with the
--- text `bytes`
+-- `console`, `line` and `status` are the console output, the result line and the exit status of the first job named `name` in the list with
+-- the text `bytes`
 pub record IsConsoleOf (contents : Option FileContents) (bytes name console line : List ℕ) (status : ℕ) : Type 0 where
   pub jobs : List Job
   pub listed : job_list_of bytes ≡ Ok jobs
@@ -41,15 +41,15 @@ pub record IsConsoleOf (contents : Option FileContents) (bytes name console line
   pub first : IsFirstJobNamed jobs name index
   pub of_job : IsJobConsole contents jobs index console line status
 
--- `console`, `line` and `status` are the console, the result line and the exit status of the job that the arguments name, in the list at
--- their path
+-- `console`, `line` and `status` are the console output, the result line and the exit status of the job that the arguments name, in the
+-- list at their path
 pub record IsConsoleAt (contents : Option FileContents) (args : ConsoleArgs) (console line : List ℕ) (status : ℕ)
     : Type 0 where
   pub bytes : List ℕ
   pub read : IsTextAt contents args.list.now bytes
   pub of_list : IsConsoleOf (contents_below (optional_text args.root) contents) bytes args.name.now console line status
 
--- the job's console was written to standard output, and then its result line to standard error
+-- the console output of the job was written to standard output, and then its result line to standard error
 pub record IsConsoleWritten (contents : Option FileContents) (args : ConsoleArgs) (status : ℕ) (before after : CommandOutputs)
     : Type 0 where
   pub console : List ℕ

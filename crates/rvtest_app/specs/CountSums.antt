@@ -28,12 +28,12 @@ AreTablesAdded contents [] before after = after ≡ before
 AreTablesAdded contents (path ∷ paths) before after =
     (next : CountTable) × (IsTableAdded contents path.now before next × AreTablesAdded contents paths next after)
 
--- how many instructions were executed at these addresses
+-- the number of instructions executed at these addresses
 abbrev pub executed_at_addresses : List AddressCounts → ℕ
 executed_at_addresses [] = 0
 executed_at_addresses (counts ∷ more) = counts.executed + executed_at_addresses more
 
--- how many instructions were executed in these images
+-- the number of instructions executed in these images
 abbrev pub executed_in_images : List ImageCounts → ℕ
 executed_in_images [] = 0
 executed_in_images (image ∷ images) = executed_at_addresses image.addresses + executed_in_images images
@@ -42,7 +42,7 @@ executed_in_images (image ∷ images) = executed_at_addresses image.addresses + 
 abbrev pub max_u64 : ℕ
 max_u64 = 2 ^ 64 - 1
 
--- the number to print: the number itself, or the greatest 64-bit number if it does not fit in 64 bits
+-- the number, or the greatest 64-bit number if it does not fit in 64 bits
 abbrev pub capped_number : ℕ → ℕ
 capped_number number = min number max_u64
 
@@ -54,7 +54,7 @@ run_word count = if count == 1 then codes " run of " else codes " runs of "
 abbrev pub image_word : ℕ → List ℕ
 image_word count = if count == 1 then codes " image, " else codes " images, "
 
--- "at least " for the greatest 64-bit number, which may stand for a greater one; empty for any other number
+-- "at least " for the greatest 64-bit number, at which the sum saturates; empty for any other number
 abbrev pub at_least_prefix : ℕ → List ℕ
 at_least_prefix number = if number == max_u64 then codes "at least " else []
 
@@ -62,7 +62,7 @@ at_least_prefix number = if number == max_u64 then codes "at least " else []
 abbrev pub instruction_word : ℕ → List ℕ
 instruction_word count = if count == 1 then codes " instruction\n" else codes " instructions\n"
 
--- the number of executed instructions in words, with "at least" if it is the greatest 64-bit number, and a line feed
+-- the end of the summary: the number of executed instructions, after "at least" if it is the greatest 64-bit number
 abbrev pub instructions_text : ℕ → List ℕ
 instructions_text number = at_least_prefix number ++ decimal number ++ instruction_word number
 
@@ -71,7 +71,7 @@ abbrev pub sum_note : CountTable → List ℕ
 sum_note table = decimal table.runs ++ run_word table.runs ++ decimal (length table.images) ++ image_word (length table.images)
     ++ instructions_text (capped_number (executed_in_images table.images))
 
--- the sum of the tables was written to the path of `--out` or to standard output, and then the line that summarizes it to standard error
+-- the sum of the tables was written to the path of `--out` or to standard output, and then its summary to standard error
 pub record IsSumWritten (contents : Option FileContents) (args : CountsArgs) (status : ℕ) (before after : CommandOutputs) : Type 0 where
   pub sum : CountTable
   pub added : AreTablesAdded contents args.tables.items no_counts sum

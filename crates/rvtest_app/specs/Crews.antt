@@ -5,12 +5,12 @@ use Rattle.rv_stream.specs.declared_engine.RunError.{RunError}
 use Rattle.rv_stream.specs.declared_engine.RunError.TheVariants as run
 use Rattle.std.specs.Prelude.{◌≡◌, ◌⊎◌, ◌≤◌, ℕ, max, min, Option, Some, None}
 
--- `workers`, the number of threads, is the requested number limited to 1 to 64, or without a request some number from 1 to 64
+-- `workers` is the requested number of threads, but at least 1 and at most 64; without a request, some number from 1 to 64
 abbrev pub AreRequestedWorkers : Option ℕ → ℕ → Type 0
 AreRequestedWorkers (Some args) workers = workers ≡ max 1 (min args 64)
 AreRequestedWorkers None workers = (1 ≤ workers) × (workers ≤ 64)
 
--- the number of jobs in a chunk: the requested number, limited to 1 to 4,096
+-- how many jobs a thread claims at once: the requested number, but at least 1 and at most 4,096
 abbrev pub requested_group : ℕ → ℕ
 requested_group args = max 1 (min args 4096)
 

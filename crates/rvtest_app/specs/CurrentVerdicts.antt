@@ -1,5 +1,5 @@
--- The verdicts on the jobs that `accept` runs: whether they pass as `run` judges them, with their golden files as they are, and whether
--- they differ from the jobs that they are compared with.
+-- The verdicts on the jobs that `accept` runs: whether they pass with their golden files as they are now, and whether they differ from the
+-- jobs that they are compared with.
 use Rattle.std.specs.Prelude.{◌≡◌, ◌⊎◌, ◌≤◌, ◌<◌, ◌&&◌, ℕ, Bool, true, false, List, [], ◌∷◌, Option, Some, None, IfSome, IsSomeAnd, if◌then◌else◌, length, slice_get}
 use Rattle.std.specs.List.{list_any}
 use Rattle.rv_accept.specs.Ends.{is_accepted_end}
@@ -22,51 +22,52 @@ use Rattle.rv_rows.specs.Verdict.{did_run}
 
 -- ---- golden files
 
--- there is no file at the path; holds for any path if the contents of files are not known
+-- the file at the path does not exist; true for any path if the contents of files are not known
 abbrev pub IsMissingAt : Option FileContents → List ℕ → Type 0
 IsMissingAt contents path = IfSome contents (λ files. files path ≡ None)
 
--- the file at the path is longer than `max_file_size`, the largest number of bytes that is read of a file; holds for any path if the
--- contents of files are not known
+-- the file at the path is longer than `max_file_size`, the limit for files that are read; true for any path if the contents of files are
+-- not known
 abbrev pub IsTooLongAt : Option FileContents → List ℕ → Type 0
 IsTooLongAt contents path = IfSome contents (λ files. IsSomeAnd (files path) (λ bytes. max_file_size < length bytes))
 
--- the `Option` is the whole contents of the file at the path, or `None` if there is no file or it is longer than `max_file_size`
+-- the contents of the file at the path, or `None` if it does not exist or is longer than `max_file_size`
 abbrev pub AreContentsUpToLimit : Option FileContents → List ℕ → Option (List ℕ) → Type 0
 AreContentsUpToLimit contents path None = IsMissingAt contents path ⊎ IsTooLongAt contents path
 AreContentsUpToLimit contents path (Some bytes) = (length bytes ≤ max_file_size) × IfSome contents (λ files. files path ≡ Some bytes)
 
--- `text` is the whole contents of the golden file at the path, which is resolved against `root`; `None` if no path is given
+-- `text` is the contents of the golden file at the path, resolved against `root`, or `None` if no path is given or it cannot be read
 abbrev pub IsGoldenText : Option FileContents → Option (List ℕ) → Option (List ℕ) → Option (List ℕ) → Type 0
 IsGoldenText contents root None text = text ≡ None
 IsGoldenText contents root (Some path) text = AreContentsUpToLimit contents (resolved_path root path) text
 
--- the path of a golden file, if its contents matter for the verdict; `None` if the job ended as expected, since it is accepted then
+-- the path of a golden file if its contents matter for the verdict; `None` if the job ended as expected, since it is then accepted whatever
+-- they are
 abbrev pub path_to_read : Job → Row → Option (List ℕ) → Option (List ℕ)
 path_to_read job row path = if is_accepted_end acceptance.Expected job row.ending then None else path
 
 -- ---- one job
 
--- the row at the index of the job that `same_as` names; `None` if no job is named, or the named job did not run
+-- the row of the job that `same_as` names; `None` if it names none, or that job did not run
 abbrev pub compared_row : List (Option Row) → Option ℕ → Option Row
 compared_row rows None = None
 compared_row rows (Some index) = row_or_none (slice_get rows index)
 
--- whether the list of unmet expectations is empty
+-- whether all expectations are met
 abbrev pub are_all_met : List UnmetExpectation → Bool
 are_all_met [] = true
 are_all_met (expectation ∷ more) = false
 
--- the verdict on a job: it passes if it ran and met all expectations; otherwise it differs if `same_as` is unmet, and fails if not
+-- the verdict on a job: `Passes` if it ran and all expectations are met, else `Differs` if `same_as` is unmet, else `Fails`
 abbrev pub verdict_by : Bool → List UnmetExpectation → CurrentVerdict
 verdict_by ran unmet = if ran && are_all_met unmet then current.Passes
     else if list_any is_same unmet then current.Differs else current.Fails
 
--- the verdict on the job in `comparison`, from its row and the golden texts and the row that its row is compared with
+-- the verdict on the job in `comparison`
 abbrev pub verdict_of_comparison : ComparisonView → CurrentVerdict
 verdict_of_comparison comparison = verdict_by (did_run comparison.row.ending) (unmet_expectations_of comparison)
 
--- a row and its job, with the contents of the golden files and the row of the compared job
+-- what a row is compared with: its job, the contents of its golden files, and the row of the job that `same_as` names
 abbrev pub comparison_with : List (Option Row) → Job → Row → Option (List ℕ) → Option (List ℕ) → ComparisonView
 comparison_with rows job row console signature = record {
   job = job;
@@ -76,7 +77,7 @@ comparison_with rows job row console signature = record {
   other = compared_row rows job.same_as;
 }
 
--- `verdict` is the verdict on the job with this row, given the current contents of its golden files and the rows of all jobs
+-- `verdict` is the verdict on the job with this row, compared with its golden files as they are now and with the rows of all jobs
 pub record IsCurrentVerdict (contents : Option FileContents) (root : Option (List ℕ)) (rows : List (Option Row)) (job : Job) (row : Row)
     (verdict : CurrentVerdict) : Type 0 where
   pub console : Option (List ℕ)
@@ -85,7 +86,7 @@ pub record IsCurrentVerdict (contents : Option FileContents) (root : Option (Lis
   pub signature_read : IsGoldenText contents root (path_to_read job row job.expect_signature) signature
   pub verdict_is : verdict ≡ verdict_of_comparison (comparison_with rows job row console signature)
 
--- `verdict` is the verdict on the job with this row; without a row the job did not run, and it fails
+-- `verdict` is the verdict on the job with this row; a job without a row did not run, so it fails
 abbrev pub IsCurrentVerdictIfRun : Option FileContents → Option (List ℕ) → List (Option Row) → Job → Option Row → CurrentVerdict → Type 0
 IsCurrentVerdictIfRun contents root rows job None verdict = verdict ≡ current.Fails
 IsCurrentVerdictIfRun contents root rows job (Some row) verdict = IsCurrentVerdict contents root rows job row verdict
@@ -95,18 +96,18 @@ abbrev pub is_true : Option Bool → Bool
 is_true None = false
 is_true (Some selected) = selected
 
--- whether the selection `selection` selects the job at index `index`; false if the index is out of range
+-- whether the job at index `index` is selected; false if the index is out of range
 abbrev pub is_selected : List Bool → ℕ → Bool
 is_selected selection index = is_true (slice_get selection index)
 
--- `candidate` says of the job at index `index` whether it is chosen, and what the verdict on it is
+-- `candidate` says whether the job at index `index` is chosen, and the current verdict on it
 abbrev pub IsCandidateAt : Option FileContents → Option (List ℕ) → List (Option Row) → List Bool → ℕ → Job → Candidate → Type 0
 IsCandidateAt contents root rows chosen index job candidate = (candidate.is_chosen ≡ is_selected chosen index)
     × IsCurrentVerdictIfRun contents root rows job (row_or_none (slice_get rows index)) candidate.verdict
 
 -- ---- all jobs
 
--- `candidates` has a candidate for each job of the list, at the index of the job
+-- `candidates` has a candidate for each job of the list, in list order
 pub record AreCandidates (contents : Option FileContents) (root : Option (List ℕ)) (rows : List (Option Row)) (jobs : List Job)
     (chosen : List Bool) (candidates : List Candidate) : Type 0 where
   pub same_length : length candidates ≡ length jobs

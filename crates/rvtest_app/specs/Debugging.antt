@@ -30,7 +30,7 @@ use Rattle.rv_gdb.specs.declared_session.Session.{Session}
 use Rattle.rvtest_app.specs.Reports.{HasEntryPerUnreadable, IsFirstJobNamed}
 use Rattle.rvtest_app.specs.CommandOutputs.{IsOnlyStandardOutput, CommandOutputs}
 
--- the text that `run` prints about the job: its result line and its unmet expectations; empty if there is no job
+-- the text that `run` prints about a job: its result line and its unmet expectations; empty if there is no job
 abbrev pub end_text_of_job : PlanView → List UnreadablePath → Option Job → List ℕ
 end_text_of_job plan unread None = []
 end_text_of_job plan unread (Some job) = outcome_text plan unread (judge_by_rule Strict) job (row_of plan job)
@@ -44,8 +44,8 @@ unfoldable pub job_start_state : PlanView → ℕ → State
 job_start_state plan index =
     unwrap_or (option_and_then (λ (job : Job). result_ok (start_state_in plan.results job)) (slice_get plan.jobs index)) (flat_state [])
 
--- `session` debugs the run of the job at index `index`, with the files that it needs read from the store and its image's path resolved
--- against `root`; `end_text` is the text that `run` prints about the job
+-- `session` debugs the run of the job at index `index`, whose files have these contents, with the image's path resolved against `root`;
+-- `end_text` is the text that `run` prints about the job
 pub record IsJobOpened (contents : Option FileContents) (root : Option (List ℕ)) (jobs : List Job) (index : ℕ) (end_text : List ℕ)
     (session : Session) : Type 0 where
   pub plan : PlanView
@@ -58,8 +58,8 @@ pub record IsJobOpened (contents : Option FileContents) (root : Option (List ℕ
       (resolved_path root (slice_index_or plan.jobs index d).image) session
   pub end_text_is : end_text ≡ job_end_text plan unread index
 
--- `session` debugs the first job of the requested name in the list with the text `bytes`, and `end_text` is the text that `run` prints
--- about this job
+-- `session` debugs the first job with the requested name in the list with the text `bytes`, and `end_text` is the text that `run` prints
+-- about the job
 pub record IsSessionOpenedOf (contents : Option FileContents) (args : GdbArgs) (bytes end_text : List ℕ) (session : Session) : Type 0 where
   pub jobs : List Job
   pub listed : job_list_of bytes ≡ Ok jobs
@@ -67,14 +67,14 @@ pub record IsSessionOpenedOf (contents : Option FileContents) (args : GdbArgs) (
   pub first : IsFirstJobNamed jobs args.name.now index
   pub of_job : IsJobOpened (contents_below (optional_text args.root) contents) (optional_text args.root) jobs index end_text session
 
--- `session` debugs the job that the arguments name, in the list at their path, and `end_text` is the text that `run` prints about this job
+-- `session` debugs the job that the arguments name, in the list at their path, and `end_text` is the text that `run` prints about the job
 pub record IsSessionOpenedAt (contents : Option FileContents) (args : GdbArgs) (end_text : List ℕ) (session : Session) : Type 0 where
   pub bytes : List ℕ
   pub read : IsTextAt contents args.list.now bytes
   pub of_list : IsSessionOpenedOf contents args bytes end_text session
 
--- `gdb` read bytes of standard input until the session or the input ended, and wrote only the session's responses to standard output, which
--- is not a terminal
+-- `gdb` read bytes from standard input until the session or the input ended, and wrote only the replies of the session to standard output,
+-- which is not a terminal
 pub record IsGdbServed (contents : Option FileContents) (is_terminal : Bool) (args : GdbArgs) (input rest : Option (List ℕ))
     (status : ℕ) (before after : CommandOutputs) : Type 0 where
   pub is_no_terminal : is_terminal ≡ false
@@ -86,10 +86,10 @@ pub record IsGdbServed (contents : Option FileContents) (is_terminal : Bool) (ar
   pub read : Consumes input rest received
   -- no byte was read after the session ended
   pub read_while_open : IsReadWhileOpen end_text first received
-  -- the replies; before each stop at the end of the run they have what `run` reports for the job
+  -- the replies; when the run ends, they contain what `run` prints about the job
   pub replies : List ℕ
   pub last : Session
-  -- whether the end of the input may have interrupted a move; otherwise only the byte 0x03 did
+  -- whether the end of the input can have interrupted a command that runs the job; if not, only Ctrl-C (the byte 0x03) did
   pub may_end : Bool
   pub at_end : may_end ≡ true → IsAtEnd rest
   pub responded : IsReceived end_text may_end first received replies last
@@ -98,14 +98,14 @@ pub record IsGdbServed (contents : Option FileContents) (is_terminal : Bool) (ar
   pub written : IsOnlyStandardOutput replies before after
   pub exit_status : status ≡ 0
 
--- ---- why the command stops
+-- ---- errors
 
--- the stop reports that standard output is a terminal, and shows how gdb starts the command
+-- why a command stopped: standard output is a terminal, and the message shows how gdb starts the command; or memory ran out
 abbrev pub IsNoGdbStop : Stop → Type 0
 IsNoGdbStop stop = IsStop 2 (path_message (codes "standard output")
     (codes "expected gdb, found a terminal; run gdb-multiarch -ex 'target remote | rvtest gdb LIST NAME'")) stop
 
--- the stop reports that the job at index `index` is refused; its message is the job's result line
+-- why a command stopped: the job at index `index` is refused, and the message is its result line; or memory ran out
 pub record IsRefusedJobStop (contents : Option FileContents) (jobs : List Job) (index : ℕ) (stop : Stop) : Type 0 where
   pub plan : PlanView
   pub listed : plan.jobs ≡ jobs
@@ -121,7 +121,7 @@ pub record IsRefusedJobStop (contents : Option FileContents) (jobs : List Job) (
 abbrev pub IsUnopenedJobStop : Option FileContents → List Job → ℕ → Stop → Type 0
 IsUnopenedJobStop contents jobs index stop = (stop ≡ stops.OutOfMemory) ⊎ IsRefusedJobStop contents jobs index stop
 
--- why a command stopped: memory ran out, or the first job of the requested name in the list with the text `bytes` is refused
+-- why a command stopped: memory ran out, or the first job with the requested name in the list with the text `bytes` is refused
 pub record IsUnopenedJobOfTextStop (contents : Option FileContents) (args : GdbArgs) (bytes : List ℕ) (stop : Stop) : Type 0 where
   pub jobs : List Job
   pub listed : job_list_of bytes ≡ Ok jobs
@@ -129,13 +129,13 @@ pub record IsUnopenedJobOfTextStop (contents : Option FileContents) (args : GdbA
   pub first : IsFirstJobNamed jobs args.name.now index
   pub refused : IsRefusedJobStop (contents_below (optional_text args.root) contents) jobs index stop
 
--- the stop for an error of the session: memory ran out, standard input could not be read, or a write failed
+-- why a command stopped: the session ended with this error; memory ran out, standard input could not be read, or a write failed
 abbrev pub IsSessionErrorStop : SessionError → Stop → Type 0
 IsSessionErrorStop session_error.OutOfMemory stop = stop ≡ stops.OutOfMemory
 IsSessionErrorStop (session_error.ReadFailed reason) stop = IsSystemStop (codes "standard input") reason stop
 IsSessionErrorStop session_error.ReplyWriteFailed stop = stop ≡ stops.WriteFailed
 
--- `before` and `after` count the failed writes: `after` is one more if a failed write ended the session, and equal to `before` if another
--- error did
+-- how the number of failed writes changes with this error of the session: it grows by one if the error is a failed write, and otherwise
+-- stays
 abbrev pub IsFailureCounted : SessionError → ℕ → ℕ → Type 0
 IsFailureCounted error before after = (error ≡ session_error.ReplyWriteFailed → after ≡ one_more before) × (error ≢ session_error.ReplyWriteFailed → after ≡ before)

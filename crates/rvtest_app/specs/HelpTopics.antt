@@ -6,15 +6,15 @@ use Rattle.rv_command.specs.declared.stop.Stop.TheVariants as stops
 use Rattle.rv_job_text.specs.Printable.{printable_value}
 use Rattle.rvtest_app.specs.declared.list_keys.TheConstants.{LIST_KEYS}
 
--- the topic that describes the keys of a job list
+-- the topic about the keys of a job list
 abbrev pub keys_topic : List ℕ
 keys_topic = codes "keys"
 
--- the topic is `keys`, the only topic that is not a command; the text is the description of the keys of a list, and the status is 0
+-- the topic is `keys`, the only topic that is not a command; the text describes the keys of a list, and the status is 0
 abbrev pub IsTopicPrinted : List ℕ → List ℕ → ℕ → Type 0
 IsTopicPrinted topic text status = (topic ≡ keys_topic) × ((text ≡ LIST_KEYS.now) × (status ≡ 0))
 
--- the message about an unknown topic
+-- the message for an unknown topic
 abbrev pub no_topic_message : List ℕ → List ℕ
 no_topic_message topic = codes "rvtest: unknown help topic \"" ++ printable_value topic
     ++ codes "\": try \"help keys\" for the keys of a list, or \"help COMMAND\" for a command\n"

@@ -1,4 +1,4 @@
--- Updating the report of the whole list with the rows of a run (`--into`).
+-- Updating a report of a whole list with the rows of a run (`--into`).
 use Rattle.std.specs.Prelude.{◌≡◌, ◌||◌, ℕ, Bool, List, [], ◌∷◌, IsSomeAnd, MatchOption, Option, Some, None, if◌then◌else◌, map, slice_set}
 use Rattle.std.specs.Option.{option_or}
 use Rattle.rv_files.specs.Files.{FileContents}
@@ -15,7 +15,7 @@ use Rattle.rv_stream.specs.Streams.{joined_row_texts}
 use Rattle.rvtest_app.specs.Outlets.{is_stdout_at}
 use Rattle.rvtest_app.specs.RunOutput.{chosen_last_line, chosen_report_text}
 
--- ---- the whole report
+-- ---- the report of a whole list
 
 -- the names of the jobs, in order
 abbrev pub job_names : List Job → List (List ℕ)
@@ -26,40 +26,39 @@ pub record IsWholeReport (jobs : List Job) (report : SavedReport) : Type 0 where
   pub extent : report.extent ≡ extent.Whole
   pub named : row_names report.rows ≡ job_names jobs
 
--- `rows` are the rows of a report of the whole list, and this report is at the path
+-- the file at the path is a report of the whole list, with these rows
 abbrev pub IsWholeReportAt : Option FileContents → List ℕ → List Job → List Row → Type 0
 IsWholeReportAt contents path jobs rows = (report : SavedReport) × (IsReportAt contents path report
     × (IsWholeReport jobs report × (rows ≡ report.rows)))
 
--- `old_rows` are the rows of the report of `--into`, which the run updates; none without `--into`
+-- `old_rows` are the rows of the report that `--into` names; `None` without `--into`
 abbrev pub AreOldRows : Option FileContents → RunArgs → List Job → Option (List Row) → Type 0
 AreOldRows contents args jobs old_rows = MatchOption args.into (old_rows ≡ None)
     (λ path. IsSomeAnd old_rows (IsWholeReportAt contents path.now jobs))
 
 -- ---- the updated report
 
--- the rows `old_rows`, in which the rows at the indices of the first list are replaced, in order, by the rows of the second
+-- `old_rows` with the rows at some indices replaced: that at the first index by the first of the new rows, and so on
 abbrev pub merged_rows : List ℕ → List Row → List Row → List Row
 merged_rows [] rows old_rows = old_rows
 merged_rows (index ∷ indices) [] old_rows = old_rows
 merged_rows (index ∷ indices) (row ∷ rows) old_rows = merged_rows indices rows (slice_set old_rows index row)
 
--- the text of a run's report: with old rows, the whole report updated with the new rows; without, a report of the new rows alone
+-- the text of a run's report: the old report with the rows of the run replaced if there is one, else a report of these rows alone
 abbrev pub run_report_text : Option (List Row) → ℕ → List ℕ → Option Shard → List Row → List ℕ
 run_report_text (Some old_rows) jobs indices shard rows = report_text (merged_rows indices rows old_rows)
 run_report_text None jobs indices shard rows = chosen_report_text jobs indices shard rows
 
--- the text that a finished job at index `index` adds to the report at once: its row if rows are streamed, and otherwise nothing
+-- what a report receives as soon as the job at index `index` finishes: its row, or nothing if rows are not written early
 abbrev pub report_row_text : Bool → ℕ → Row → List ℕ
 report_row_text is_streaming index row = if is_streaming then row_text index row else []
 
--- the part of the report that is written while jobs finish: their rows, or nothing if the run updates an old report
+-- what a report receives while the jobs run: their rows, or nothing if the run updates an old report
 abbrev pub streamed_rows : Option (List Row) → List ℕ → List Row → List ℕ
 streamed_rows (Some old_rows) indices rows = []
 streamed_rows None indices rows = joined_row_texts row_text indices rows
 
--- the part of the report that is written after all jobs have finished: the whole report if the run updates an old one, and otherwise the
--- last line
+-- what a report receives after all jobs have finished: the whole report if the run updates an old one, else the last line
 abbrev pub run_report_rest : Option (List Row) → ℕ → List ℕ → Option Shard → List Row → List ℕ
 run_report_rest (Some old_rows) jobs indices shard rows = report_text (merged_rows indices rows old_rows)
 run_report_rest None jobs indices shard rows = chosen_last_line jobs indices shard rows

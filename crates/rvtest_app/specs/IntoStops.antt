@@ -1,4 +1,4 @@
--- Why the report of `--into` cannot be updated.
+-- Why a report cannot be updated by `--into`.
 use Rattle.std.specs.Prelude.{◌≡◌, ◌⊎◌, ◌==◌, ◌++◌, ◌+◌, ℕ, false, List, IsSomeAnd, Option, Some, None, codes, length, slice_get, take}
 use Rattle.std.specs.Fmt.{decimal}
 use Rattle.std.specs.Str.{bytes_eq}
@@ -25,7 +25,7 @@ use Rattle.rvtest_app.specs.declared.whole_report.NameMismatch.{NameMismatch}
 abbrev pub expected_whole_report : List ℕ
 expected_whole_report = codes ": --into expects a report of the whole list\n"
 
--- the message that the report at the path has only `rows` rows of a list with `jobs` jobs
+-- the message for a report at the path that is partial, with `rows` rows of a list with `jobs` jobs
 abbrev pub partial_report_message : List ℕ → ℕ → ℕ → List ℕ
 partial_report_message path rows jobs = codes "rvtest: " ++ printable_text path ++ codes ": a partial report (" ++ decimal rows
     ++ codes " of " ++ count_text jobs (codes "job") ++ codes ")" ++ expected_whole_report
@@ -47,15 +47,15 @@ not_whole_message path list_path (reason.Partial rows jobs) = partial_report_mes
 not_whole_message path list_path (reason.RowCount rows jobs) = row_count_message path list_path rows jobs
 not_whole_message path list_path (reason.Name name) = name_mismatch_message path list_path name.number name.in_report.now name.listed.now
 
--- ---- which message is shown
+-- ---- the reason
 
--- the number of jobs in the list of a partial report; none for a whole report
+-- the number of jobs in the list of a partial report; `None` for a whole report
 abbrev pub jobs_of_partial_report : Extent → Option ℕ
 jobs_of_partial_report extent.Whole = None
 jobs_of_partial_report (extent.Selection jobs) = Some jobs
 jobs_of_partial_report (extent.Shard shard) = Some shard.jobs
 
--- `mismatch` describes the first index at which the two lists have different names: its number, counted from 1, and the name in each list
+-- `mismatch` has the number, counted from 1, of the first name that differs between the two lists, and the name in each list
 pub record IsFirstNameMismatch (report_names listed_names : List (List ℕ)) (mismatch : NameMismatch) : Type 0 where
   -- the index of the name
   pub index : ℕ
@@ -65,8 +65,8 @@ pub record IsFirstNameMismatch (report_names listed_names : List (List ℕ)) (mi
   pub differ : bytes_eq mismatch.in_report.now mismatch.listed.now ≡ false
   pub before : take index report_names ≡ take index listed_names
 
--- why a report is not a report of all jobs of the list: it is partial, it has another number of rows than the list has jobs, or a row has
--- another name than its job
+-- why a report is not a report of all jobs of the list: it is partial, its number of rows differs from the number of jobs, or the name of a
+-- row differs from that of its job
 abbrev pub IsNotWholeBecause : List Job → SavedReport → NotWholeReason → Type 0
 IsNotWholeBecause jobs report (reason.Partial rows count) = (rows ≡ length report.rows)
     × (jobs_of_partial_report report.extent ≡ Some count)

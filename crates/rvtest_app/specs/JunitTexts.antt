@@ -1,4 +1,4 @@
--- What a JUnit document contains for the rows of a report.
+-- What JUnit XML has for the rows of a report.
 use Rattle.std.specs.Prelude.{ℕ, List, Option, Some, None, map, unwrap_or}
 use Rattle.std.specs.Path.{path_file_stem}
 use Rattle.rv_expect.specs.Judgement.{JudgeView}
@@ -15,7 +15,7 @@ abbrev pub suite_name : Option (List ℕ) → List ℕ → List ℕ
 suite_name (Some name) path = name
 suite_name None path = junit_class path
 
--- the JUnit document, for the suite `suite`, of these rows of a report, in which each failed row has its result line
+-- the JUnit XML of these rows of a report, for the suite `suite`; each failed row has its result line
 abbrev pub failures_junit : List ℕ → JudgeView → List Row → List ℕ
 failures_junit suite judging rows = junit_text suite judging
     (map (failed_line judging) rows) rows

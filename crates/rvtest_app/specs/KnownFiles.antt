@@ -12,14 +12,14 @@ use Rattle.rv_rows.specs.JobList.{names_of_jobs}
 use Rattle.rv_rows.specs.declared_job.Job.{Job}
 use Rattle.rv_job_text.specs.Printable.{printable_text, printable_value}
 
--- `known` has the path of a file of known failures, and which of the jobs this file lists
+-- `known` says which of the jobs the file of known failures at the path names, and has the path
 pub record IsKnownFile (contents : Option FileContents) (path : List ℕ) (jobs : List Job) (known : KnownJobs) : Type 0 where
   pub bytes : List ℕ
   pub read : IsTextAt contents path bytes
   pub jobs_are : known_jobs_of (names_of_jobs jobs) bytes ≡ Ok known.jobs
   pub path_is : known.path ≡ path
 
--- `known` are the known failures that the file at the path of `--known` lists; `None` without a path
+-- `known` are the known failures in the file that `--known` names; `None` without this option
 abbrev pub IsKnownAt : Option FileContents → Option (List ℕ) → List Job → Option KnownJobs → Type 0
 IsKnownAt contents None jobs known = known ≡ None
 IsKnownAt contents (Some path) jobs known = IsSomeAnd known (IsKnownFile contents path jobs)

@@ -26,7 +26,7 @@ abbrev pub chosen_name_lines : List Job → Option (List Bool) → List ℕ
 chosen_name_lines jobs None = []
 chosen_name_lines jobs (Some selection) = name_lines jobs (selected_job_indices selection)
 
--- `names` is the text that `list` prints for the list with the text `bytes`, and `notes` are the notes about the choice of jobs
+-- `names` is what `list` prints for the list with the text `bytes`, and `notes` are the notes about the choice of jobs
 pub record IsListOutputOf (contents : Option FileContents) (args : RunArgs) (bytes names notes : List ℕ) : Type 0 where
   pub jobs : List Job
   pub listed : job_list_of bytes ≡ Ok jobs
@@ -34,13 +34,13 @@ pub record IsListOutputOf (contents : Option FileContents) (args : RunArgs) (byt
   pub chosen : IsChoice contents args (failure_rule args.lenient) jobs selection notes
   pub names_are : names ≡ chosen_name_lines jobs selection
 
--- `names` is the text that `list` prints for the list at the path in the arguments, and `notes` are the notes about the choice of jobs
+-- `names` is what `list` prints for the list at the path in the arguments, and `notes` are the notes about the choice of jobs
 pub record IsListOutputAt (contents : Option FileContents) (args : RunArgs) (names notes : List ℕ) : Type 0 where
   pub bytes : List ℕ
   pub read : IsTextAt contents args.list.now bytes
   pub output : IsListOutputOf contents args bytes names notes
 
--- the notes about the choice went to standard error, and then the names to standard output; the status is 0
+-- the notes about the choice were written to standard error, and the names to standard output; the status is 0
 pub record IsListWritten (contents : Option FileContents) (args : RunArgs) (status : ℕ) (before after : CommandOutputs) : Type 0 where
   pub names : List ℕ
   pub notes : List ℕ

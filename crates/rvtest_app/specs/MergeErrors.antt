@@ -1,4 +1,4 @@
--- Why `merge` rejects its parts, and the messages.
+-- Why `merge` rejects the reports of shards, and the messages.
 use Rattle.std.specs.Prelude.{◌≡◌, ◌⊎◌, ◌++◌, ℕ, List, codes, slice_get}
 use Rattle.std.specs.Borrow.{Bor}
 use Rattle.std.specs.Fmt.{decimal}
@@ -17,21 +17,20 @@ use Rattle.rv_merge.specs.declared.error.MergeError.{MergeError}
 use Rattle.rv_merge.specs.declared.error.MergeError.TheVariants as error
 use Rattle.rv_job_text.specs.Printable.{printable_text}
 
--- the path of the part at index `index`; "a part" if there is no such index
+-- the path of the report at index `index` in the arguments; "a part" if the index is out of range
 abbrev pub part_path : List (Bor (List ℕ)) → ℕ → List ℕ
 part_path parts index = option_map_or (λ path. path.now) (slice_get parts index) (codes "a part")
 
--- a message about two parts: `path`, the rejected part; `flaw_text`, its flaw; `other_path`, the other part; and `end`, the end of the
--- message
+-- a message about two reports: the path of the rejected one, `flaw_text`, the path of the other one, and `end`
 abbrev pub two_parts_message : List ℕ → List ℕ → List ℕ → List ℕ → List ℕ
 two_parts_message path flaw_text other_path end =
     codes "rvtest: " ++ printable_text path ++ codes ": " ++ flaw_text ++ printable_text other_path ++ end
 
--- the message that the part at `path` belongs to another run than the first part; `difference` says how they differ
+-- the message that the report at `path` belongs to another run than the first report; `difference` says how they differ
 abbrev pub other_run_message : List (Bor (List ℕ)) → List ℕ → List ℕ → List ℕ
 other_run_message parts path difference = two_parts_message path difference (part_path parts 0) (codes "\"\n")
 
--- the message that the part at the path, which has this text, has this flaw
+-- the message about this flaw of the report at the path, which has this text
 abbrev pub flaw_message : List (Bor (List ℕ)) → List ℕ → List ℕ → Flaw → List ℕ
 flaw_message parts path text (flaw.Line number) = invalid_line_message result_kind.Part path text number
 flaw_message parts path text flaw.Truncated = path_message path (codes "the part is truncated")
@@ -46,7 +45,7 @@ flaw_message parts path text (flaw.DifferentText earlier) =
 flaw_message parts path text (flaw.RepeatedName number) =
     path_number_message path (codes ": job ") number (codes " has the same name as an earlier job\n")
 
--- the stop reports this error of `merge`, or that memory ran out; `parts` are the paths and `texts` the contents of the parts
+-- why a command stopped: merging ended with this error; `parts` are the paths and `texts` the texts of the reports
 abbrev pub IsMergeErrorStop : List (Bor (List ℕ)) → List (List ℕ) → MergeError → Stop → Type 0
 IsMergeErrorStop parts texts error.OutOfMemory stop = stop ≡ stops.OutOfMemory
 IsMergeErrorStop parts texts error.NoTexts stop = IsStop 2 (codes "rvtest: expected at least one part\n") stop
@@ -55,7 +54,7 @@ IsMergeErrorStop parts texts (error.InvalidText index flaw) stop =
 IsMergeErrorStop parts texts (error.MissingShard number) stop =
     IsStop 2 (codes "rvtest: no part for shard " ++ decimal number ++ codes "\n") stop
 
--- why `merge` stopped: memory ran out, or the texts are not the parts of one run, for a reason that the stop reports
+-- why a command stopped: memory ran out, or the texts are not the reports of all shards of one run
 abbrev pub IsPartsErrorStop : List (Bor (List ℕ)) → List (List ℕ) → Stop → Type 0
 IsPartsErrorStop parts texts stop = (stop ≡ stops.OutOfMemory)
     ⊎ ((error : MergeError) × HasMergeError texts error × IsMergeErrorStop parts texts error stop)

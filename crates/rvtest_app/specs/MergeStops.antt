@@ -14,7 +14,7 @@ use Rattle.rvtest_app.specs.Merges.{AreTextsAt, merged_report_path}
 use Rattle.rvtest_app.specs.Overwrites.{IsMergeOverwriteStop}
 use Rattle.rvtest_app.specs.WriteStops.{IsOutputStop}
 
--- why a command stopped: the parts at the first paths were read, but the part at the next path could not be read
+-- why a command stopped: the reports at the first paths were read, but the report at the next path could not be
 pub record IsPartUnreadStop (contents : Option FileContents) (paths : List (Bor (List ℕ))) (stop : Stop) : Type 0 where
   pub before : List (Bor (List ℕ))
   pub path : Bor (List ℕ)
@@ -25,21 +25,21 @@ pub record IsPartUnreadStop (contents : Option FileContents) (paths : List (Bor 
   pub read : AreTextsAt contents before texts
   pub unread : IsResultUnreadStop contents path.now stop
 
--- why a command stopped: memory ran out, or one of the parts could not be read
+-- why a command stopped: memory ran out, or one of the reports could not be read
 abbrev pub IsPartsUnreadStop : Option FileContents → List (Bor (List ℕ)) → Stop → Type 0
 IsPartsUnreadStop contents paths stop = (stop ≡ stops.OutOfMemory) ⊎ IsPartUnreadStop contents paths stop
 
--- why a command stopped: the report, the JUnit XML or the summary line could not be written
+-- why a command stopped: the report, the JUnit XML or the line of totals could not be written
 abbrev pub IsMergeWriteStop : MergeArgs → Stop → Type 0
 IsMergeWriteStop args stop = IsOutputStop
     (merged_report_path (optional_text args.report) (optional_text args.junit)) (optional_text args.junit) stop
 
--- why a command stopped: the texts are not the parts of one run, or they are, but the merged report could not be written
+-- why a command stopped: the texts are not the reports of all shards of one run, or they are, but the merged report could not be written
 abbrev pub IsMergeOfTextsStop : MergeArgs → List (List ℕ) → Stop → Type 0
 IsMergeOfTextsStop args texts stop = IsPartsErrorStop args.parts.items texts stop
     ⊎ ((rows : List Row) × (AreParts rows texts × IsMergeWriteStop args stop))
 
--- why `merge` stopped: an output file would overwrite a part, a part could not be read, or the parts could not be merged
+-- why `merge` stopped: an output file would overwrite an input, a report could not be read, or the reports could not be merged
 abbrev pub IsMergeStop : Option FileContents → MergeArgs → Stop → Type 0
 IsMergeStop contents args stop = IsMergeOverwriteStop args stop ⊎ (IsPartsUnreadStop contents args.parts.items stop
     ⊎ ((texts : List (List ℕ)) × (AreTextsAt contents args.parts.items texts × IsMergeOfTextsStop args texts stop)))

@@ -22,23 +22,24 @@ AreTextsAt contents [] [] = ⊤
 AreTextsAt contents (path ∷ paths) (text ∷ texts) = IsTextAt contents path.now text × AreTextsAt contents paths texts
 AreTextsAt contents _ _ = ⊥
 
--- the path of the merged report: the path of `--report`, or else `-` (standard output), or `None` if the JUnit XML goes to standard output
+-- the path for the merged report: the path of `--report`, or else `-` (standard output), or `None` if the JUnit XML goes to standard output
+-- instead
 abbrev pub merged_report_path : Option (List ℕ) → Option (List ℕ) → Option (List ℕ)
 merged_report_path (Some path) junit = Some path
 merged_report_path None None = Some (codes "-")
 merged_report_path None (Some junit) = if is_stdout junit then None else Some (codes "-")
 
--- the name of the JUnit suite: the requested name, or else the name derived from the report's path, or `merged` without a report
+-- the name of the JUnit suite: the requested name, or else a name derived from the path of the report, or `merged` without `--report`
 abbrev pub merged_suite : Option (List ℕ) → Option (List ℕ) → List ℕ
 merged_suite suite (Some path) = suite_name suite path
 merged_suite suite None = unwrap_or suite (codes "merged")
 
--- the JUnit document of the merged rows
+-- the JUnit XML of the merged rows
 abbrev pub merged_junit : MergeArgs → List Row → List ℕ
 merged_junit args rows = failures_junit (merged_suite (optional_text args.suite) (optional_text args.report))
     (report_judging args.lenient) rows
 
--- `merge` read the parts at the paths in the arguments, and wrote the summary line, the report and the JUnit XML of their rows
+-- `merge` read the reports at the paths in the arguments, and wrote the line of totals, the merged report and the JUnit XML
 pub record IsMergedAt (contents : Option FileContents) (args : MergeArgs) (status : ℕ) (before after : CommandOutputs)
     : Type 0 where
   pub texts : List (List ℕ)
@@ -50,7 +51,7 @@ pub record IsMergedAt (contents : Option FileContents) (args : MergeArgs) (statu
       (optional_text args.junit) (totals_line (report_judging args.lenient) rows) (report_text rows)
       (merged_junit args rows) before after
 
--- of the output files of `merge`, only the JUnit document was committed
+-- of the files that `merge` writes, only the JUnit XML was committed
 pub record IsMergedJunitAlone (contents : Option FileContents) (args : MergeArgs) (before after : Option (List CommittedFile))
     : Type 0 where
   pub texts : List (List ℕ)
@@ -59,6 +60,6 @@ pub record IsMergedJunitAlone (contents : Option FileContents) (args : MergeArgs
   pub parts : AreParts rows texts
   pub committed : AreFilesCommitted before after (Some (file_at (optional_text args.junit) (merged_junit args rows)))
 
--- after an error, `merge` has committed no file, or only the JUnit document
+-- after an error, `merge` has committed no file, or only the JUnit XML
 abbrev pub IsAbortedMergeAt : Option FileContents → MergeArgs → Option (List CommittedFile) → Option (List CommittedFile) → Type 0
 IsAbortedMergeAt contents args before after = (after ≡ before) ⊎ IsMergedJunitAlone contents args before after

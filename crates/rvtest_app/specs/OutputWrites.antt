@@ -1,4 +1,4 @@
--- What a command writes: the text that it shows, the report and the JUnit XML.
+-- What a command writes: the text that it shows, its report and its JUnit XML.
 use Rattle.std.specs.Prelude.{◌≡◌, ◌||◌, ◌++◌, ℕ, Bool, true, false, List, Option, Some}
 use Rattle.std.specs.Io.KnownBytes.{Appends}
 use Rattle.rv_expect.specs.Judgement.{judge_view}
@@ -15,13 +15,13 @@ abbrev pub IsWrittenToErrorsIf : Bool → List ℕ → CommandOutputs → Comman
 IsWrittenToErrorsIf true text before after = IsOnlyErrorOutput text before after
 IsWrittenToErrorsIf false text before after = IsOnlyStandardOutput text before after
 
--- the JUnit document of the rows of a report; the function `line` returns the lines about a row
+-- the JUnit XML of the rows of a report; `line` gives the lines about a row
 abbrev pub junit_of_report : {T : Type 0} → (T → ℕ → Row → List ℕ) → FileTexts T → List ℕ
 junit_of_report line texts = junit_text texts.suite.name.now (judge_view texts.suite.judge)
     (row_texts (line texts.reporter.now) texts.indices.now (report_rows texts.report)) (report_rows texts.report)
 
--- the text `shown` was written, to standard error if `to_stderr` is true and otherwise to standard output; then the report and the JUnit
--- XML were written to their paths
+-- the text `shown` was written to standard error if `to_stderr` is true, else to standard output; then the report and the JUnit XML were
+-- written to their paths
 pub record IsOutputWrittenTo (to_stderr : Bool) (report_path junit_path : Option (List ℕ)) (shown report junit : List ℕ)
     (before after : CommandOutputs) : Type 0 where
   pub between : CommandOutputs
@@ -30,8 +30,8 @@ pub record IsOutputWrittenTo (to_stderr : Bool) (report_path junit_path : Option
   pub errors_unchanged : (after.errors ≡ between.errors) × (after.failures ≡ between.failures)
   pub committed : AreFilesCommitted between.committed after.committed (Some (file_at junit_path junit ++ file_at report_path report))
 
--- the text `shown` was written, to standard error if one of the paths is `-` and otherwise to standard output; then the report and the
--- JUnit XML were written to their paths
+-- the text `shown` was written to standard error if one of the paths is `-`, else to standard output; then the report and the JUnit XML
+-- were written to their paths
 abbrev pub IsOutputWritten : Option (List ℕ) → Option (List ℕ) → List ℕ → List ℕ → List ℕ → CommandOutputs → CommandOutputs → Type 0
 IsOutputWritten report_path junit_path shown report junit before after =
     IsOutputWrittenTo (is_stdout_at report_path || is_stdout_at junit_path) report_path junit_path shown report junit before after

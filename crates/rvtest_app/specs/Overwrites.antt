@@ -1,4 +1,4 @@
--- Files of a command that would overwrite its inputs.
+-- Rejecting output files that would overwrite the inputs of a command.
 use Rattle.std.specs.Prelude.{◌≡◌, ◌⊎◌, ◌++◌, ℕ, Bool, List, Ok, [], ◌∷◌, false, IfSome, IsSomeAnd, Option, codes, if◌then◌else◌, map, option_to_list}
 use Rattle.std.specs.Borrow.{Bor}
 use Rattle.std.specs.List.{flat_map, list_any}
@@ -34,11 +34,11 @@ use Rattle.rvtest_app.specs.WriteStops.{IsFileNotOpenedStop}
 abbrev pub input_paths : List InputPath → List (List ℕ)
 input_paths inputs = map (λ (input : InputPath). path_buf_bytes input.path) inputs
 
--- the identities of `inputs` are these paths, provided that the committed files are reported
+-- the identities of `inputs` are these paths, if the committed files are known
 abbrev pub HaveIdentities : Option (List CommittedFile) → List (List ℕ) → InputFiles → Type 0
 HaveIdentities committed paths inputs = IfSome committed (λ _. inputs.identities.items ≡ paths)
 
--- whether `files`, a list of identities, has the identity `identity`
+-- whether `identity` is one of the identities `files`
 abbrev pub is_among : List (List ℕ) → List ℕ → Bool
 is_among files identity = list_any (λ (file : List ℕ). bytes_eq file identity) files
 
@@ -46,50 +46,50 @@ is_among files identity = list_any (λ (file : List ℕ). bytes_eq file identity
 abbrev pub IsNotAnInput : List (List ℕ) → List ℕ → Type 0
 IsNotAnInput inputs path = list_any (is_among (path ∷ [])) inputs ≡ false
 
--- the path of an option is not one of the paths `inputs`; always holds if the option is not given, or names standard output
+-- the path of an option is not one of the paths `inputs`; true in any case if the option is not given or names standard output
 abbrev pub IsNotAnInputIfFile : List (List ℕ) → Option (List ℕ) → Type 0
 IsNotAnInputIfFile inputs path = IfSome (file_path_at path) (IsNotAnInput inputs)
 
--- how a message refers to an input that a job names: by the key and the job
+-- how a message refers to an input that a job names: by the key and the name of the job
 abbrev pub job_input_text : List ℕ → List ℕ → List ℕ
 job_input_text key job = codes "the \"" ++ key ++ codes "\" of job \"" ++ job ++ codes "\""
 
--- how a message refers to an input: by its placeholder in the usage, such as LIST, or by the key of the job that names it
+-- how a message refers to an input: by a phrase such as "the job list", or by the key and the job that name it
 abbrev pub input_role_text : InputRole → List ℕ
 input_role_text (role.Word word) = word.now
 input_role_text (role.JobFile key job) = job_input_text key.now job.now
 
--- how a message refers to an output file that a job names: by the job and the key
+-- how a message refers to an output file that a job names: by the name of the job and the key
 abbrev pub job_output_text : List ℕ → List ℕ → List ℕ
 job_output_text key job = codes "job \"" ++ job ++ codes "\": " ++ key
 
--- how a message refers to an output file: by its option, or by the job whose key names it
+-- how a message refers to an output file: by its option, or by the job and the key in the list that name it
 abbrev pub output_role_text : InputRole → List ℕ
 output_role_text (role.Word word) = word.now
 output_role_text (role.JobFile key job) = job_output_text key.now job.now
 
--- the first half of the message that `option`, with this path, would overwrite a file
+-- the first half of a message: `option` with its path, and "would overwrite"
 abbrev pub overwrite_prefix : List ℕ → List ℕ → List ℕ
 overwrite_prefix option path = codes "rvtest: " ++ option ++ codes " \"" ++ printable_text path ++ codes "\" would overwrite "
 
--- the second half of the message: a colon and the path of the input in double quotes
+-- the second half of that message: a colon and the path of the input in double quotes
 abbrev pub input_path_text : List ℕ → List ℕ
 input_path_text path = codes ": \"" ++ printable_text path ++ codes "\"\n"
 
--- the message that `option`, with the path `path`, would overwrite the input at `input_path`, which `role` describes
+-- the message for `option`, with the path `path`, which would overwrite the input at `input_path`; `role` says which input it is
 abbrev pub overwrite_message : List ℕ → List ℕ → List ℕ → List ℕ → List ℕ
 overwrite_message option path role input_path = overwrite_prefix option path ++ role ++ input_path_text input_path
 
--- the stop reports that `option`, with the path `path`, would overwrite some input, or that memory ran out
+-- why a command stopped: `option`, with the path `path`, would overwrite an input, or memory ran out
 abbrev pub IsOverwriteReported : List ℕ → List ℕ → Stop → Type 0
 IsOverwriteReported option path stop = (role : List ℕ) × (input_path : List ℕ) × IsStop 2 (overwrite_message option path role input_path) stop
 
--- why a command stopped: writing the file of `option` would overwrite an input, or it could not be found out to which file its path leads
+-- why a command stopped: writing the file of `option` would overwrite an input, or it could not be determined to which file the path leads
 abbrev pub IsOverwriteStop : List ℕ → List ℕ → Stop → Type 0
 IsOverwriteStop option path stop = IsFileNotOpenedStop path stop ⊎ IsOverwriteReported option path stop
 
--- why a command stopped: the path of the option names a file, and writing it would overwrite an input, or it could not be found out to
--- which file the path leads
+-- why a command stopped: the option names a file, and writing it would overwrite an input, or it could not be determined to which file the
+-- path leads
 abbrev pub IsOptionOverwriteStop : List ℕ → Option (List ℕ) → Stop → Type 0
 IsOptionOverwriteStop option path stop = IsSomeAnd (file_path_at path) (λ path. IsOverwriteStop option path stop)
 
@@ -104,20 +104,20 @@ golden_paths_of_job root job = map (resolved_path root)
 abbrev pub paths_of_job : Option (List ℕ) → Job → List (List ℕ)
 paths_of_job root job = resolved_path root job.image ∷ golden_paths_of_job root job
 
--- the files that a run must not write: its list, the file of `--known`, and the files of all jobs of the list
+-- the files that a run must not write: its list, the file of known failures, and the files of all jobs of the list
 abbrev pub inputs_of_run : RunArgs → List Job → List (List ℕ)
 inputs_of_run args jobs = args.list.now ∷ option_to_list (optional_text args.known)
     ++ flat_map (paths_of_job (optional_text args.root)) jobs
 
--- a list with the path of the report of `--failed`; empty if the option is not given
+-- the path of the report that `--failed` names, as a list; empty without this option
 abbrev pub failed_report_path : RunArgs → List (List ℕ)
 failed_report_path args = option_to_list (optional_text args.failed)
 
--- the paths of the reports that a run reads, of `--failed` and of `--into`
+-- the paths of the reports that a run reads, which `--failed` and `--into` name
 abbrev pub report_paths_of_run : RunArgs → List (List ℕ)
 report_paths_of_run args = failed_report_path args ++ option_to_list (optional_text args.into)
 
--- no output file of a run is a report that it reads, except that `--into` and `--failed` may name one report
+-- no output file of a run is a report that it reads, except that `--into` and `--failed` can name one report
 pub record AreReportsPreserved (args : RunArgs) : Type 0 where
   pub report : IsNotAnInputIfFile (failed_report_path args) (optional_text args.report)
   pub junit : IsNotAnInputIfFile (report_paths_of_run args) (optional_text args.junit)
@@ -139,11 +139,11 @@ IsRunOverwriteStop args stop = (stop ≡ stops.OutOfMemory)
     ⊎ (IsOptionOverwriteStop (codes "--counts") (optional_text args.counts) stop
     ⊎ IsOptionOverwriteStop (codes "--into") (optional_text args.into) stop)))
 
--- the statement holds, unless no file was committed (`after` is `before`) or committed files are not reported
+-- the statement is true, unless no file was committed or the committed files are not known
 abbrev pub HoldsIfCommitted : Type 0 → Option (List CommittedFile) → Option (List CommittedFile) → Type 0
 HoldsIfCommitted Statement before after = (after ≡ before) ⊎ IfSome before (λ _. Statement)
 
--- a run committed no file, or its output files are not among its inputs
+-- a run committed no file, or none of its output files is an input
 abbrev pub AreRunInputsPreserved : Option FileContents → RunArgs → Option (List CommittedFile) → Option (List CommittedFile) → Type 0
 AreRunInputsPreserved contents args before after = (after ≡ before)
     ⊎ ((text : List ℕ) × (jobs : List Job) × (IsTextAt contents args.list.now text × ((job_list_of text ≡ Ok jobs)
@@ -155,7 +155,7 @@ AreRunInputsPreserved contents args before after = (after ≡ before)
 abbrev pub image_paths : Option (List ℕ) → Job → List (List ℕ)
 image_paths root job = resolved_path root job.image ∷ []
 
--- the files that `accept` must not write, apart from the list: the report of `--failed`, and the images of all jobs
+-- the files that `accept` must not write, apart from the list: the report that `--failed` names, and the images of all jobs
 abbrev pub inputs_of_accept : AcceptArgs → List Job → List (List ℕ)
 inputs_of_accept args jobs = failed_report_path args.run ++ flat_map (image_paths (optional_text args.run.root)) jobs
 
@@ -174,18 +174,18 @@ is_read inputs path = list_any (is_among (path ∷ [])) inputs
 abbrev pub is_golden_input : List (List ℕ) → InputPath → Bool
 is_golden_input inputs golden = is_read inputs (path_buf_bytes golden.path)
 
--- `accept` overwrites no input: the list is not another input, and no golden file of a selected job is the list or an input
+-- `accept` overwrites no input: the list is no other input, and no golden file of a selected job is the list or another input
 pub record AreAcceptFilesNotInputs (args : AcceptArgs) (jobs : List Job) (selection : List Bool) : Type 0 where
   pub list_is_no_input : IsNotAnInput (inputs_of_accept args jobs) args.run.list.now
   pub golden_is_not_list : list_any (is_read (args.run.list.now ∷ [])) (golden_paths_of_selected (optional_text args.run.root) jobs selection) ≡ false
   pub golden_is_no_input : list_any (is_read (inputs_of_accept args jobs)) (golden_paths_of_selected (optional_text args.run.root) jobs selection) ≡ false
 
--- the beginning of a message about a golden file outside of the directory: `head`, such as "rvtest: warning: ", and `role`, which describes
--- the file
+-- the beginning of a message about a golden file outside of the directory: `head`, such as "rvtest: warning: ", and `role`, which says
+-- which job names the file
 abbrev pub outside_prefix : List ℕ → List ℕ → List ℕ
 outside_prefix head role = head ++ role
 
--- the middle of the message: the path of the golden file in double quotes, and "is outside the directory"
+-- the middle of that message: the path of the golden file in double quotes, and "is outside the directory"
 abbrev pub outside_path : List ℕ → List ℕ
 outside_path path = codes " \"" ++ printable_text path ++ codes "\" is outside the directory "
 
@@ -193,36 +193,36 @@ outside_path path = codes " \"" ++ printable_text path ++ codes "\" is outside t
 abbrev pub quoted_text : List ℕ → List ℕ
 quoted_text text = codes "\"" ++ printable_text text ++ codes "\""
 
--- the text that a golden file is outside of the directory: `head`, `role`, which describes the file, its path, and the directory
+-- the text for a golden file outside of the directory: `head`, `role`, which says which job names the file, its path, and the directory
 abbrev pub outside_text : List ℕ → List ℕ → List ℕ → List ℕ → List ℕ
 outside_text head role path directory = outside_prefix head role ++ outside_path path ++ quoted_text directory
 
--- the error that a golden file is outside of the directory, which `--outside` allows
+-- the message for a golden file outside of the directory, with the hint that `--outside` allows this
 abbrev pub outside_message : List ℕ → List ℕ → List ℕ → List ℕ
 outside_message role path directory = outside_text (codes "rvtest: ") role path directory
     ++ codes "; use --root DIR to resolve relative paths against DIR, or --outside to write it\n"
 
--- the stop reports that the golden file at the path is outside of the directory, or that memory ran out
+-- why a command stopped: the golden file at the path is outside of the directory, or memory ran out
 abbrev pub IsOutsideStop : List ℕ → Stop → Type 0
 IsOutsideStop path stop = (role : List ℕ) × (directory : List ℕ) × IsStop 2 (outside_message role path directory) stop
 
--- why a command stopped: memory ran out, or the file at the path, which `accept` would write, is an input, is outside of the directory, or
--- could not be identified
+-- why a command stopped: memory ran out, or the file at the path, which `accept` would write, is an input or outside of the directory, or
+-- it could not be determined to which file the path leads
 abbrev pub IsUnwritableStop : List ℕ → Stop → Type 0
 IsUnwritableStop path stop = (stop ≡ stops.OutOfMemory)
     ⊎ (((role : List ℕ) × IsOverwriteStop role path stop) ⊎ IsOutsideStop path stop)
 
--- why a command stopped: memory ran out, or some file that `accept` would write is an input, is outside of the directory, or could not be
--- identified
+-- why a command stopped: memory ran out, or a file that `accept` would write is an input or outside of the directory, or it could not be
+-- determined to which file its path leads
 abbrev pub IsAnyUnwritableStop : Stop → Type 0
 IsAnyUnwritableStop stop = (path : List ℕ) × IsUnwritableStop path stop
 
--- why a command stopped: memory ran out, or some file that `accept` would write is an input, is outside of the directory, or could not be
--- identified
+-- why a command stopped: memory ran out, or a file that `accept` would write is an input or outside of the directory, or it could not be
+-- determined to which file its path leads
 abbrev pub IsAcceptOverwriteStop : Stop → Type 0
 IsAcceptOverwriteStop stop = (stop ≡ stops.OutOfMemory) ⊎ IsAnyUnwritableStop stop
 
--- `accept` committed no file, or none of the files that it writes is among its inputs
+-- `accept` committed no file, or none of the files that it writes is an input
 abbrev pub AreAcceptInputsPreserved : Option FileContents → AcceptArgs → Option (List CommittedFile) → Option (List CommittedFile) → Type 0
 AreAcceptInputsPreserved contents args before after = (after ≡ before)
     ⊎ ((text : List ℕ) × (jobs : List Job) × (chosen : List Bool) × (IsTextAt contents args.run.list.now text
@@ -234,12 +234,12 @@ AreAcceptInputsPreserved contents args before after = (after ≡ before)
 abbrev pub paths_of_args : List (Bor (List ℕ)) → List (List ℕ)
 paths_of_args args = map (λ (path : Bor (List ℕ)). path.now) args
 
--- no output file of `merge` is one of its parts
+-- no output file of `merge` is one of the reports that it merges
 abbrev pub AreMergeFilesNotInputs : MergeArgs → Type 0
 AreMergeFilesNotInputs args = IsNotAnInputIfFile (paths_of_args args.parts.items) (optional_text args.report)
     × IsNotAnInputIfFile (paths_of_args args.parts.items) (optional_text args.junit)
 
--- why a command stopped: memory ran out, or an output file of `merge` would overwrite a part
+-- why a command stopped: memory ran out, or an output file of `merge` would overwrite one of the reports that it merges
 abbrev pub IsMergeOverwriteStop : MergeArgs → Stop → Type 0
 IsMergeOverwriteStop args stop = (stop ≡ stops.OutOfMemory)
     ⊎ (IsOptionOverwriteStop (codes "--report") (optional_text args.report) stop

@@ -7,10 +7,10 @@ use Rattle.rvtest_app.specs.CommandOutputs.{CommandOutputs}
 use Rattle.rvtest_app.specs.Views.{IsViewWritten}
 use Rattle.rvtest_app.specs.declared.view.View.TheVariants as view
 
--- the format of a profile: whether it is CSV, and the largest number of functions of each image
+-- the requested format of a profile: whether it is CSV, and at most how many functions of each image it shows
 abbrev pub profile_format : ProfileArgs → ProfileFormat
 profile_format args = record { csv = args.csv; top = args.top }
 
--- the notes about the choice went to standard error, and then the profile of the requested jobs was written
+-- the notes about the choice were written to standard error, and then the profile of the requested jobs was written
 abbrev pub IsProfileWritten : Option FileContents → ProfileArgs → ℕ → CommandOutputs → CommandOutputs → Type 0
 IsProfileWritten contents args status before after = IsViewWritten contents args.run (view.Profile (profile_format args)) status before after

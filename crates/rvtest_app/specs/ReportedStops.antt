@@ -20,29 +20,29 @@ use Rattle.rvtest_app.specs.CommandOutputs.{IsOnlyErrorOutput, CommandOutputs}
 
 -- ---- the program
 
--- the program ended with the status and the message of a stop that satisfies `condition`; `is_closed` says whether the reader of standard
--- output had closed it
+-- the program ended with the status and message of a stop for which `condition` is true; `is_closed` says whether the reader of standard
+-- output closed it
 abbrev pub IsStopReported : Bool → (Stop → Type 0) → ℕ → CommandOutputs → Type 0
 IsStopReported is_closed condition status after = (stop : Stop) × condition stop × (status ≡ end_status is_closed stop)
     × ((before : CommandOutputs) × IsOnlyErrorOutput (end_message is_closed stop) before after)
 
--- the exit status if the program cannot get its arguments for this reason: 3 if memory ran out, and otherwise 2
+-- the exit status if the program cannot read its arguments for this reason: 3 if memory ran out, else 2
 abbrev pub unreadable_args_status : ErrorKind → ℕ
 unreadable_args_status error_kind.OutOfMemory = 3
 unreadable_args_status _ = 2
 
--- the message if the program cannot get its arguments for this reason: that memory ran out, or otherwise that an argument is not UTF-8
+-- the message if the program cannot read its arguments for this reason: memory ran out, else an argument is not UTF-8
 abbrev pub unreadable_args_message : ErrorKind → List ℕ
 unreadable_args_message error_kind.OutOfMemory = codes "rvtest: out of memory\n"
 unreadable_args_message _ = codes "rvtest: an argument is not valid UTF-8\n"
 
 -- ---- help
 
--- the error of `clap` is of the kind that requests the help or the version
+-- the error of `clap` requests the help or the version
 abbrev pub IsHelpRequested : WordsFault → Type 0
 IsHelpRequested fault = (fault ≡ args_error.DisplayHelp) ⊎ (fault ≡ args_error.DisplayVersion)
 
--- why a command stopped: memory ran out, or writing the help failed, which raised the number of failed writes by one
+-- why a command stopped: memory ran out, or the help could not be written, which is one more failed write
 abbrev pub IsHelpStop : ℕ → ℕ → Stop → Type 0
 IsHelpStop failures_before failures_after stop = (stop ≡ stops.OutOfMemory)
     ⊎ ((stop ≡ stops.WriteFailed) × (failures_after ≡ one_more failures_before))
@@ -52,8 +52,8 @@ abbrev pub IsHelpWritten : ArgsError → Option (List ℕ) → Option (List ℕ)
 IsHelpWritten error.OutOfMemory before after = ⊥
 IsHelpWritten (error.Message fault text) before after = IsHelpRequested fault × Appends before after (string_bytes text)
 
--- why the program stopped, given an error of its arguments: memory ran out, the requested help could not be written, or the arguments are
--- rejected with the error's message
+-- why the program stopped because of its arguments: memory ran out, the requested help could not be written, or the message of the error
+-- rejects them
 abbrev pub IsArgsErrorStop : ArgsError → ℕ → ℕ → Stop → Type 0
 IsArgsErrorStop error.OutOfMemory failures_before failures_after stop = stop ≡ stops.OutOfMemory
 IsArgsErrorStop (error.Message fault text) failures_before failures_after stop =
@@ -62,12 +62,12 @@ IsArgsErrorStop (error.Message fault text) failures_before failures_after stop =
 
 -- ---- diff
 
--- why the new report could not be compared: its text is not a report, or the file could not be read, for the given reason
+-- why a command stopped: the new report was read, but its text is not a report, or it could not be read and `stop` says why
 abbrev pub IsNewReportStop : Bool → List ℕ → Result (Vec ℕ Global) Stop → Stop → Type 0
 IsNewReportStop partial path (Ok bytes) stop = IsRequestedFaultStop partial path bytes.items stop
 IsNewReportStop partial path (Err unread) stop = stop ≡ unread
 
--- why `diff` stopped: memory ran out, the text of the old report is invalid, or it is valid, but the new report could not be used
+-- why a command stopped: memory ran out, the old report is invalid, or it is valid, but the new report could not be read or is invalid
 abbrev pub IsDiffStop : DiffArgs → List ℕ → Result (Vec ℕ Global) Stop → Stop → Type 0
 IsDiffStop args old new stop = (stop ≡ stops.OutOfMemory) ⊎ (IsRequestedFaultStop args.partial args.old.now old stop
     ⊎ ((report : PartialReport) × IsReportRead args.partial old report × IsNewReportStop args.partial args.new.now new stop))

@@ -1,4 +1,4 @@
--- The outputs of `diff`, `check` and `explain`.
+-- The output of `diff`, `check` and `explain`.
 use Rattle.std.specs.Prelude.{◌≡◌, ◌+◌, ◌++◌, ◌-◌, if◌then◌else◌, ℕ, Bool, true, false, List, [], ◌∷◌, length, None, Option, Some, Ok, position}
 use Rattle.std.specs.Prelude.{slice_index_or}
 use Rattle.std.specs.Str.{bytes_eq}
@@ -40,42 +40,43 @@ use Rattle.rvtest_app.specs.Commands.{check_status, diff_status, passing_status,
 
 -- ---- unreadable paths
 
--- `unread` has as many entries as `results` has unreadable files
+-- `unread` has one entry for each file that could not be read
 abbrev pub HasEntryPerUnreadable : List PathResult → List UnreadablePath → Type 0
 HasEntryPerUnreadable results unread = length unread ≡ after_increments 0 (unreadable_count results)
 
 -- ---- diff
 
--- what `diff` compares: steps if the Bool is true (`--steps`), else slower jobs if a percentage is given (`--slower`), else outcomes
+-- what `diff` compares: with `--steps` (the Bool) the numbers of steps, else with `--slower` (a percentage) only jobs that got slower, else
+-- the outcomes
 abbrev pub requested_comparison : Bool → Option ℕ → CompareMode
 requested_comparison true slower = Steps
 requested_comparison false (Some percent) = Slower percent
 requested_comparison false None = Outcomes
 
--- whether the first report has only chosen jobs of a list, and the second has all of them
+-- whether the first report is of chosen jobs only, and the second of a whole list
 abbrev pub is_partial_of_whole : Extent → Extent → Bool
 is_partial_of_whole (extent.Selection jobs) extent.Whole = true
 is_partial_of_whole _ _ = false
 
--- the rows of `report` that `diff` compares with `other`: if `other` has only chosen jobs and `report` is whole, the rows of jobs in
--- `other`, and otherwise all rows
+-- the rows of `report` that `diff` compares with `other`: if `report` is of a whole list and `other` of chosen jobs only, the rows of jobs
+-- in `other`; otherwise all rows
 abbrev pub compared_rows : SavedReport → SavedReport → List Row
 compared_rows other report = if is_partial_of_whole other.extent report.extent then rows_in_both other.rows report.rows
     else report.rows
 
--- the number of rows of the old report plus the number of rows of the new report that `diff` does not compare
+-- the number of rows of both reports that `diff` does not compare
 abbrev pub uncompared_row_count : SavedReport → SavedReport → ℕ
 uncompared_row_count old new = (length old.rows - length (compared_rows new old))
     + (length new.rows - length (compared_rows old new))
 
--- `output` and `status` are the output and the exit status of `diff` for the reports `before` and `after`
+-- `output` and `status` are the output and exit status of `diff` for the reports `before` and `after`
 pub record IsDiffOfReports (compare : CompareMode) (before after : SavedReport) (output : List ℕ) (status : ℕ) : Type 0 where
   pub text : output ≡ diff_text compare (compared_rows after before) (compared_rows before after)
       (uncompared_row_count before after)
   pub exit_status : status ≡ diff_status (difference_counts compare (compared_rows after before) (compared_rows before after))
 
--- `output`, `notes` and `status` are the output, the notes and the exit status of `diff` for the reports with the texts `old` and `new`; a
--- note says how many rows a truncated report has
+-- `output`, `notes` and `status` are the output, the notes and the exit status of `diff` for the reports with the texts `old` and `new`;
+-- there is a note for each truncated report
 pub record IsDiffOf (args : DiffArgs) (old new output notes : List ℕ) (status : ℕ) : Type 0 where
   pub old_report : PartialReport
   pub old_is : IsReportRead args.partial old old_report
@@ -92,7 +93,7 @@ pub record IsDiffAt (contents : Option FileContents) (args : DiffArgs) (output n
   pub new_read : IsTextAt contents args.new.now new
   pub diff : IsDiffOf args old new output notes status
 
--- the notes of `diff` went to standard error, and then its output to standard output
+-- the notes of `diff` were written to standard error, and its output to standard output
 pub record IsDiffWritten (contents : Option FileContents) (args : DiffArgs) (status : ℕ) (before after : CommandOutputs) : Type 0 where
   pub text : List ℕ
   pub notes : List ℕ
@@ -103,8 +104,7 @@ pub record IsDiffWritten (contents : Option FileContents) (args : DiffArgs) (sta
 
 -- ---- check
 
--- `output` and `status` are the output and the exit status of `check` for a list without errors, with all files of its jobs read from the
--- store
+-- `output` and `status` are the output and exit status of `check` for a list without errors, whose jobs' files have these contents
 pub record IsPlanCheckOf (contents : Option FileContents) (root : Option (List ℕ)) (path bytes output : List ℕ) (status : ℕ)
     : Type 0 where
   pub plan : PlanView
@@ -116,15 +116,14 @@ pub record IsPlanCheckOf (contents : Option FileContents) (root : Option (List �
   pub text : output ≡ check_text path bytes root plan unread
   pub exit_status : status ≡ check_status (refused_job_count plan)
 
--- `output` and `status` are the output and the exit status of `check` for a list with these errors: if there are any, the status is 2, and
--- the output has at least one line for each invalid job, which begins with the list's path, a line and column, and the job's number and
--- name
+-- `output` and `status` are the output and exit status of `check` for a list with these errors; if there are any, the status is 2 and the
+-- output has at least one line for each
 abbrev pub IsCheckOutputOf : Option FileContents → Option (List ℕ) → List JobError → List ℕ → List ℕ → List ℕ → ℕ → Type 0
 IsCheckOutputOf contents root [] path bytes output status = IsPlanCheckOf contents root path bytes output status
 IsCheckOutputOf contents root (error ∷ errors) path bytes output status =
     AppendsLinesOfEach (IsFaultMessage path bytes) (error ∷ errors) [] output × (status ≡ 2)
 
--- `output` and `status` are the output and the exit status of `check` for the list at the path in the arguments
+-- `output` and `status` are the output and exit status of `check` for the list at the path in the arguments
 pub record IsCheckOutputAt (contents : Option FileContents) (args : CheckArgs) (output : List ℕ) (status : ℕ) : Type 0 where
   pub bytes : List ℕ
   pub read : IsTextAt contents args.list.now bytes
@@ -133,8 +132,8 @@ pub record IsCheckOutputAt (contents : Option FileContents) (args : CheckArgs) (
 
 -- ---- explain
 
--- `text` explains the row of the job at index `index` of the plan, with its last `last` instructions and, if its budget was exhausted, how
--- it used the budget
+-- `text` explains the row of the job at index `index` of the plan; it shows the last `last` instructions and, if the budget was exhausted,
+-- how it was used
 pub record IsTextExplaining (plan : PlanView) (unread : List UnreadablePath) (index last : ℕ) (text : List ℕ) : Type 0 where
   pub budget_use : Option BudgetUse
   pub is_budget_use : (d : Job) → IsBudgetUseOfRow plan (slice_index_or plan.jobs index d)
@@ -142,8 +141,8 @@ pub record IsTextExplaining (plan : PlanView) (unread : List UnreadablePath) (in
   pub explanation : (d : Job) → text ≡ explanation_text plan unread (judge_by_rule Strict) (slice_index_or plan.jobs index d)
       (row_of plan (slice_index_or plan.jobs index d)) (record { last = last; budget_use = budget_use })
 
--- `output` and `status` are the output and the exit status of `explain` for the job at index `index`, with the files that its row needs
--- read from the store
+-- `output` and `status` are the output and exit status of `explain` for the job at index `index`; the files that its row needs have these
+-- contents
 pub record IsJobExplained (contents : Option FileContents) (jobs : List Job) (index last : ℕ) (output : List ℕ)
     (status : ℕ) : Type 0 where
   pub plan : PlanView
@@ -160,8 +159,8 @@ pub record IsJobExplained (contents : Option FileContents) (jobs : List Job) (in
 abbrev pub IsFirstJobNamed : List Job → List ℕ → ℕ → Type 0
 IsFirstJobNamed jobs name index = position (λ (job : Job). bytes_eq job.name name) jobs ≡ Some index
 
--- `output` and `status` are the output and the exit status of `explain` for the list with the text `bytes`; a requested budget applies to
--- every job
+-- `output` and `status` are the output and exit status of `explain` for the list with the text `bytes`; a requested budget replaces that of
+-- the job
 pub record IsExplanationOf (contents : Option FileContents) (args : ExplainArgs) (bytes output : List ℕ) (status : ℕ)
     : Type 0 where
   pub jobs : List Job
@@ -171,7 +170,7 @@ pub record IsExplanationOf (contents : Option FileContents) (args : ExplainArgs)
   pub explained : IsJobExplained (contents_below (optional_text args.root) contents) (with_budget args.budget jobs) index
       args.last output status
 
--- `output` and `status` are the output and the exit status of `explain` for the list at the path in the arguments
+-- `output` and `status` are the output and exit status of `explain` for the list at the path in the arguments
 pub record IsExplanationAt (contents : Option FileContents) (args : ExplainArgs) (output : List ℕ) (status : ℕ)
     : Type 0 where
   pub bytes : List ℕ

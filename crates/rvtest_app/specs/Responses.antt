@@ -57,8 +57,8 @@ IsCommandDone contents input is_terminal (request.Help args) status before after
     (text : List ℕ) × (IsTopicPrinted args.topic.now text status
     × IsOnlyStandardOutput text before after)
 
--- a command did what the request asks for, and its results on standard output are coloured as requested; `is_colored` says whether standard
--- output is a terminal that supports colours
+-- a command did what the request asks for, with its results on standard output colored as requested; `is_colored` says whether standard
+-- output is a terminal that supports colors
 pub record IsDoneInColors (contents : Option FileContents) (input : Option (List ℕ)) (is_terminal is_colored : Bool) (request : Request)
     (status : ℕ) (before after : CommandOutputs) : Type 0 where
   pub plain : CommandOutputs
@@ -69,12 +69,13 @@ pub record IsDoneInColors (contents : Option FileContents) (input : Option (List
 abbrev pub RequestHelp : List (List ℕ) → Type 0
 RequestHelp args = IsAmong DisplayHelp (args_error_kinds args) ⊎ IsAmong DisplayVersion (args_error_kinds args)
 
--- the program only prints a text: a usage error with status 2 if the arguments are not a request, or the help or the version with status 0
+-- the program only prints a text: a usage error, with status 2, if the arguments are not a request, or the requested help or version, with
+-- status 0
 abbrev pub IsOnlyUsageOrHelp : List (List ℕ) → ℕ → Type 0
 IsOnlyUsageOrHelp args status =
     ((request_of_args args ≡ None) × (status ≡ 2)) ⊎ (RequestHelp args × (status ≡ 0))
 
--- the program responded to its arguments: it did what they request, or it only printed the usage, the help or the version
+-- the program responded to its arguments: it carried out their request, or only printed a usage error, the help or the version
 abbrev pub IsCarriedOut : Option FileContents → Option (List ℕ) → Bool → Bool → List (List ℕ) → ℕ → CommandOutputs → CommandOutputs → Type 0
 IsCarriedOut contents input is_terminal is_colored args status before after =
     ((request : Request) × ((request_of_args args ≡ Some (value_of_request request))

@@ -1,4 +1,4 @@
--- The sink that receives the report text of each row as the row comes.
+-- The sink that receives the text of each row of a report while the jobs run.
 use Rattle.std.specs.Prelude.{◌≡◌, ℕ, Bool, true, false, List, Option, Some, None, ⊤}
 use Rattle.std.specs.Io.KnownBytes.{Appends}
 use Rattle.rvtest_app.specs.declared.outlets.Outlet.{Outlet}
@@ -11,7 +11,7 @@ module _ {V : Type 0} where
   AreRowsWritten accepted failure_count (Some before) (Some after) text = Appends (accepted before) (accepted after) text × (failure_count after ≡ failure_count before)
   AreRowsWritten accepted failure_count _ _ text = ⊥
 
-  -- what the sink has received, if there is one
+  -- what the sink has received; `None` if there is no sink or this is not known
   abbrev pub sink_received : (V → Option (List ℕ)) → Option V → Option (List ℕ)
   sink_received accepted None = None
   sink_received accepted (Some sink) = accepted sink
@@ -22,7 +22,7 @@ module _ {V : Type 0} where
   sink_failures failure_count (Some sink) = failure_count sink
 
 module _ {P V : Type 0} where
-  -- `full_outlet` consists of the given outlet without a sink and, if it is a file, of the given sink
+  -- `full_outlet` is the given outlet with the given sink, which is there exactly if the outlet is a file
   abbrev pub AreOutletParts : Outlet P (Unit {0}) → Option V → Outlet P V → Type 0
   AreOutletParts outlet.Nowhere None full_outlet = full_outlet ≡ outlet.Nowhere
   AreOutletParts outlet.Stdout None full_outlet = full_outlet ≡ outlet.Stdout

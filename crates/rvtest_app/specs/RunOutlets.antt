@@ -1,4 +1,4 @@
--- The destinations of a run's files.
+-- Where a run writes its files.
 use Rattle.std.specs.Prelude.{ℕ, List, [], Option}
 use Rattle.rv_command.specs.Texts.{optional_text}
 use Rattle.rv_files.specs.CommittedFiles.{CommittedFile}
@@ -8,7 +8,7 @@ use Rattle.rvtest_app.specs.Outlets.{HasReceived, has_no_failure}
 use Rattle.rvtest_app.specs.declared.run_outlets.RunOutlets.{RunOutlets}
 
 module _ {P W : Type 0} where
-  -- the outlets are for the paths in the arguments; the report's outlet has received this text so far, the others nothing, and no write
+  -- the outlets are for the paths in the arguments; that of the report has received this text so far, the others nothing, and no write
   -- failed
   pub record HaveRunOutletsReceived (pending_path : P → List ℕ) (accepted : W → Option (List ℕ)) (failure_count : W → ℕ)
       (committed : Option (List CommittedFile)) (args : RunArgs) (text : List ℕ) (outlets : RunOutlets P W) : Type 0 where

@@ -1,4 +1,4 @@
--- The rows of a run of some jobs of a list, and its status.
+-- The rows of a run of some jobs of a list, and its exit status.
 use Rattle.std.specs.Prelude.{◌≡◌, ◌⊎◌, ◌++◌, ℕ, Bool, true, false, List, [], Ok, Option, Some, None, IfSome, is_some, length, take}
 use Rattle.rv_files.specs.Files.{FileContents}
 use Rattle.rv_choice.specs.ChosenJobs.{IsChoice}
@@ -43,8 +43,7 @@ use Rattle.rvtest_app.specs.WrittenTexts.{IsWrittenAt}
 abbrev pub selected_job_indices : List Bool → List ℕ
 selected_job_indices selection = selected_indices selection (length selection)
 
--- `selection` selects the jobs to run: the jobs of the shard if one is given, and otherwise the chosen jobs; `notes` are the notes about
--- the choice
+-- `selection` selects the jobs to run: those of the shard if one is given, else the chosen ones; `notes` are the notes about the choice
 abbrev pub IsRequestedSelection : Option FileContents → Option Shard → RunArgs → List Job → Option (List Bool) → List ℕ
     → Type 0
 IsRequestedSelection contents (Some shard) args jobs selection notes =
@@ -52,8 +51,8 @@ IsRequestedSelection contents (Some shard) args jobs selection notes =
 IsRequestedSelection contents None args jobs selection notes =
     IsChoice contents args (failure_rule args.lenient) jobs selection notes
 
--- the list at the path in the arguments has the jobs `jobs`; `selection` selects those to run, `shard` is their shard, `old_rows` are the
--- rows that the run updates, and `notes` are the notes about the choice
+-- the list at the path in the arguments has the jobs `jobs`; `selection` selects those to run, `shard` is the requested shard, `old_rows`
+-- are the rows that the run updates, and `notes` are the notes about the choice
 pub record AreRequestedJobs (contents : Option FileContents) (args : RunArgs) (jobs : List Job)
     (selection : Option (List Bool)) (shard : Option Shard) (old_rows : Option (List Row)) (notes : List ℕ) : Type 0 where
   pub bytes : List ℕ
@@ -64,7 +63,7 @@ pub record AreRequestedJobs (contents : Option FileContents) (args : RunArgs) (j
   pub selected : IsRequestedSelection contents shard args jobs selection notes
   pub into : AreOldRows contents args jobs old_rows
 
--- the requested jobs and the known failures were found, and at least one job is selected to run
+-- the requested jobs and the known failures were determined, and at least one job is to run
 pub record AreJobsToRun (contents : Option FileContents) (args : RunArgs) : Type 0 where
   pub jobs : List Job
   pub selection : List Bool
@@ -75,8 +74,8 @@ pub record AreJobsToRun (contents : Option FileContents) (args : RunArgs) : Type
   pub failures : Option KnownJobs
   pub known_to_fail : IsKnownAt contents (optional_text args.known) jobs failures
 
--- `plan` is a plan of the jobs with the files that the rows at these indices need, read from the store; `unread` has one entry for each
--- path that could not be read
+-- `plan` is a plan of the jobs with the files that the rows at these indices need, which have these contents; `unread` has one entry for
+-- each path that could not be read
 pub record IsPlanFor (contents : Option FileContents) (jobs : List Job) (indices : List ℕ) (plan : PlanView)
     (unread : List UnreadablePath) : Type 0 where
   pub listed : plan.jobs ≡ jobs
@@ -84,16 +83,16 @@ pub record IsPlanFor (contents : Option FileContents) (jobs : List Job) (indices
   pub results_agree : AgreeWithContents contents plan.results
   pub unread_entries : length unread ≡ after_increments 0 (unreadable_count plan.results)
 
--- the JUnit document of the rows of the jobs at these indices, in which each failed row has its lines
+-- the JUnit XML of the rows of the jobs at these indices; each failed row has its lines
 abbrev pub run_junit : RunArgs → RowReporter → List ℕ → List Row → List ℕ
 run_junit args reporter indices rows = junit_text (suite_name (optional_text args.suite) args.list.now) reporter.judging
     (row_texts (row_lines_at (record reporter { verbosity = Failures })) indices rows) rows
 
--- how the rows of a run are judged: by the rule in the arguments, and with the known failures
+-- how the rows of a run are judged: by the rule in the arguments and with the known failures
 abbrev pub run_judging : RunArgs → Option KnownJobs → JudgeView
 run_judging args failures = record { rule = failure_rule args.lenient; known = failures }
 
--- the reporter of a run's rows: which rows it shows and how it judges them, as the arguments and the known failures say
+-- how the rows of a run are reported: which of them are shown and how they are judged, as the arguments and the known failures say
 abbrev pub run_reporter : RunArgs → Option KnownJobs → PlanView → List UnreadablePath → RowReporter
 run_reporter args failures plan unread = record {
   plan = plan;
@@ -103,20 +102,20 @@ run_reporter args failures plan unread = record {
   last = args.last;
 }
 
--- the rows of the jobs at these indices, in order; if `stop_after` is given, only up to the failure with this number
+-- the rows of the jobs at these indices, in order; if `stop_after` is given, they end with so many failures
 abbrev pub run_rows : Option ℕ → JudgeView → PlanView → List ℕ → List Row
 run_rows stop_after judging plan indices = rows_up_to stop_after (fails judging) (rows_at plan indices)
 
--- the indices of the jobs that have a row: the first of `indices`, as many as there are rows
+-- the indices of the jobs that have a row, which are the first ones
 abbrev pub shown_indices : List ℕ → List Row → List ℕ
 shown_indices indices rows = take (length rows) indices
 
--- a list with the JUnit file of a run with these rows; empty if `--junit` names no file
+-- the JUnit file of a run with these rows, as a list; empty if `--junit` names no file
 abbrev pub junit_file : RunArgs → RowReporter → List ℕ → List Row → List CommittedFile
 junit_file args reporter indices rows =
     file_at (optional_text args.junit) (run_junit args reporter (shown_indices indices rows) rows)
 
--- a list with the report file of a run with these rows; empty if no option names a report file
+-- the report file of a run with these rows, as a list; empty if no option names such a file
 abbrev pub report_file : RunArgs → RowReporter → List ℕ → Option Shard → Option (List Row) → List Row → List CommittedFile
 report_file args reporter indices shard old_rows rows = file_at (run_report_path args)
     (run_report_text old_rows (length reporter.plan.jobs) (shown_indices indices rows) shard rows)
@@ -140,7 +139,7 @@ IsCountsText stacks plan indices text =
     (table : CountTable) × (IsCountsTable stacks plan indices table × (text ≡ table_text table))
 
 -- the table of counts of the jobs at these indices, with call stacks if `stacks` is true, was written to the path; without a path nothing
--- was written
+-- was
 abbrev pub AreCountsWritten : Bool → Option (List ℕ) → PlanView → List ℕ → CommandOutputs → CommandOutputs → Type 0
 AreCountsWritten stacks None plan indices before after = IsWrittenAt None [] before after
 AreCountsWritten stacks (Some path) plan indices before after =
@@ -153,8 +152,8 @@ pub record IsCountedRunWritten (args : RunArgs) (reporter : RowReporter) (indice
   pub rows_written : IsRunWritten args reporter indices shard old_rows rows before between
   pub counts_written : AreCountsWritten args.stacks (optional_text args.counts) reporter.plan (shown_indices indices rows) between after
 
--- the jobs at these indices ran, with the requested budget: the note about missing images went to standard error, and then their rows and
--- counts were written; the status follows from the rows
+-- the jobs at these indices ran, with the requested budget: the note about missing images was written to standard error, and then their
+-- rows and counts were written; the status follows from the rows
 pub record IsRunOfJobs (contents : Option FileContents) (args : RunArgs) (failures : Option KnownJobs) (jobs : List Job) (indices : List ℕ)
     (shard : Option Shard) (old_rows : Option (List Row)) (status : ℕ) (before after : CommandOutputs) : Type 0 where
   pub plan : PlanView
@@ -168,14 +167,15 @@ pub record IsRunOfJobs (contents : Option FileContents) (args : RunArgs) (failur
   pub note_reported : IsOnlyErrorOutput (missing_images_note plan.jobs unread (length indices) (optional_text args.root)) before between
   pub written : IsCountedRunWritten args (run_reporter args failures plan unread) indices shard old_rows rows between after
 
--- the selected jobs ran and their outputs were written; if no job is selected (`None`), the status is 0 and nothing more was output
+-- the selected jobs ran and their output was written; if no job is selected (`None`), the status is 0 and nothing was written
 abbrev pub IsRunOfSelected : Option FileContents → RunArgs → Option KnownJobs → List Job → Option (List Bool) → Option Shard
     → Option (List Row) → ℕ → CommandOutputs → CommandOutputs → Type 0
 IsRunOfSelected contents args failures jobs None shard old_rows status before after = (status ≡ 0) × (after ≡ before)
 IsRunOfSelected contents args failures jobs (Some selection) shard old_rows status before after =
     IsRunOfJobs contents args failures jobs (selected_job_indices selection) shard old_rows status before after
 
--- `run` wrote the notes about the choice to standard error, and then ran the requested jobs, with the known failures
+-- `run` wrote the notes about the choice to standard error, and then ran the requested jobs, of which the known failures are expected to
+-- fail
 pub record IsRunAt (contents : Option FileContents) (args : RunArgs) (status : ℕ) (before after : CommandOutputs) : Type 0 where
   pub jobs : List Job
   pub selection : Option (List Bool)
@@ -189,7 +189,7 @@ pub record IsRunAt (contents : Option FileContents) (args : RunArgs) (status : �
   pub reported : IsOnlyErrorOutput notes before between
   pub ran : IsRunOfSelected contents args failures jobs selection shard old_rows status between after
 
--- ---- runs that an error ended
+-- ---- runs that ended with an error
 
 -- after an error, only some of a run's files were committed: the JUnit XML or, if counts are requested, the JUnit XML and the report
 abbrev pub AreRunFilesPartlyCommitted : RunArgs → RowReporter → List ℕ → Option Shard → Option (List Row) → List Row
@@ -216,7 +216,7 @@ abbrev pub IsAbortedRunOfJobs : Option FileContents → RunArgs → Option Known
 IsAbortedRunOfJobs contents args failures jobs indices shard old_rows before after =
     (after ≡ before) ⊎ IsRunPartlyCommitted contents args failures jobs indices shard old_rows before after
 
--- the requested jobs were found and ran, but only some of the requested output files were committed
+-- the requested jobs were determined and ran, but only some of the requested output files were committed
 pub record IsRunPartlyCommittedAt (contents : Option FileContents) (args : RunArgs) (before after : Option (List CommittedFile))
     : Type 0 where
   pub jobs_to_run : AreJobsToRun contents args

@@ -16,7 +16,7 @@ use Rattle.rvtest_app.specs.RunOutput.{rows_status}
 use Rattle.rvtest_app.specs.JunitTexts.{failures_junit, suite_name}
 use Rattle.rvtest_app.specs.CommandOutputs.{IsOnlyErrorOutput, CommandOutputs}
 
--- the JUnit document of the rows of a report
+-- the JUnit XML of the rows of a report
 abbrev pub shown_junit : ShowArgs → List Row → List ℕ
 shown_junit args rows =
     failures_junit (suite_name (optional_text args.suite) args.report.now) (report_judging args.lenient) rows
@@ -33,12 +33,12 @@ pub record IsShowWritten (contents : Option FileContents) (args : ShowArgs) (sta
       (report_text partial_report.report.rows) (shown_junit args partial_report.report.rows)
       between after
 
--- `show` committed the JUnit document of the report at the path in the arguments, if one is requested
+-- `show` committed the JUnit XML of the report at the path in the arguments, if it is requested
 pub record IsShowJunitCommitted (contents : Option FileContents) (args : ShowArgs) (before after : Option (List CommittedFile)) : Type 0 where
   pub partial_report : PartialReport
   pub read : IsReportReadAt contents args.partial args.report.now partial_report
   pub committed : AreFilesCommitted before after (Some (file_at (optional_text args.junit) (shown_junit args partial_report.report.rows)))
 
--- after an error, `show` has committed no file, or only the JUnit document
+-- after an error, `show` has committed no file, or only the JUnit XML
 abbrev pub IsAbortedShowAt : Option FileContents → ShowArgs → Option (List CommittedFile) → Option (List CommittedFile) → Type 0
 IsAbortedShowAt contents args before after = (after ≡ before) ⊎ IsShowJunitCommitted contents args before after

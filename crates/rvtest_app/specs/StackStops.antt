@@ -10,18 +10,18 @@ use Rattle.rvtest_app.specs.Crews.{IsRunErrorStop}
 use Rattle.rvtest_app.specs.WriteStops.{IsFileStop}
 use Rattle.rvtest_app.specs.WrittenTexts.{written_path}
 
--- why a command stopped: call stacks are requested, but the jobs could not be counted with them; a message about their sum names the path of
--- the table, or `-` without a path
+-- why a command stopped: call stacks are requested, and counting jobs with them ended with an error; the message names the path of the
+-- table, or `-` without a path, if counts cannot be added up
 abbrev pub IsStackSumStop : RunArgs → Stop → Type 0
 IsStackSumStop args stop = (args.stacks ≡ true)
     × ((error : CountError) × IsCountErrorStop (written_path (optional_text args.counts)) error stop)
 
--- why a run has no table of counts: memory ran out, no thread could be started, or its call stacks cannot be summed up
+-- why a run has no table of counts: memory ran out, no thread could be started, or the counts with call stacks could not be added up
 abbrev pub IsUncountedRunStop : RunArgs → Stop → Type 0
 IsUncountedRunStop args stop = IsRunErrorStop stop ⊎ IsStackSumStop args stop
 
--- why a command stopped: memory ran out, no thread could be started, a write to standard output failed, the file at the path could not be
--- created, or the call stacks cannot be summed up
+-- why a command stopped: memory ran out, no thread could be started, standard output could not be written, the file at the path could not
+-- be created, or the counts with call stacks could not be added up
 abbrev pub IsCountsWriteStop : RunArgs → Option (List ℕ) → Stop → Type 0
 IsCountsWriteStop args path stop =
     IsRunErrorStop stop ⊎ ((stop ≡ stops.WriteFailed) ⊎ (IsFileStop path stop ⊎ IsStackSumStop args stop))

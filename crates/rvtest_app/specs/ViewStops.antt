@@ -32,27 +32,27 @@ use Rattle.rvtest_app.specs.declared.view.View.TheVariants as view
 
 -- ---- a table that cannot be used
 
--- the message that the table at `table_path` has counts of another image at `path` than the selected jobs use
+-- the message that the table at `table_path` has counts of an image at `path` that differs from the one the selected jobs use
 abbrev pub other_image_message : List ℕ → List ℕ → List ℕ
 other_image_message table_path path = codes "rvtest: " ++ printable_text table_path ++ codes ": " ++ printable_text path
     ++ codes ": counted with a different image than the selected jobs use\n"
 
--- the stop reports that the table at the path counted an image that is not one of `images`, or that memory ran out
+-- why a command stopped: the table at the path has counts of an image that is not one of `images`, or memory ran out
 abbrev pub IsOtherImageStop : Option FileContents → List ℕ → List ImageFileView → Stop → Type 0
 IsOtherImageStop contents path images stop = (table : CountTable) × (IsTableAt contents path table
     × ((other : List ℕ) × ((other_image table images ≡ Some other) × IsStop 2 (other_image_message path other) stop)))
 
--- why a command stopped: the table at the path could not be read, is invalid, or counted an image that is not one of `images`
+-- why a command stopped: the table at the path could not be read, is invalid, or has counts of an image that is not one of `images`
 abbrev pub IsNoTableStop : Option FileContents → List ℕ → List ImageFileView → Stop → Type 0
 IsNoTableStop contents path images stop = IsResultUnreadStop contents path stop
     ⊎ (((text : List ℕ) × (IsTextAt contents path text × IsTableFaultStop path text stop))
     ⊎ IsOtherImageStop contents path images stop)
 
--- the message that the table at the path has no call stacks, and how to write a table with call stacks
+-- the message that the table at the path has no call stacks, with the command that writes such a table
 abbrev pub no_stacks_message : List ℕ → List ℕ
 no_stacks_message table_path = path_message table_path (codes "the table has no stacks: write one with rvtest run LIST --counts FILE --stacks")
 
--- the stop reports that the table at the path has no call stacks, which the view needs, or that memory ran out
+-- why a command stopped: the table at the path has no call stacks, which the view needs, or memory ran out
 abbrev pub IsNoStacksStop : Option FileContents → View → List ℕ → Stop → Type 0
 IsNoStacksStop contents requested_view path stop = (table : CountTable) × (IsTableAt contents path table
     × ((has_counts_for requested_view table ≡ false) × IsStop 2 (no_stacks_message path) stop))
@@ -63,36 +63,37 @@ IsMismatchedTableStop contents requested_view path images stop = IsNoTableStop c
 
 -- ---- runs that cannot be counted
 
--- why a command stopped: the jobs at these indices could not be counted with call stacks; a message about their sum names `path`
+-- why a command stopped: the jobs at these indices could not be counted with call stacks; the message names `path` if counts cannot be
+-- added up
 abbrev pub IsStackSumOfJobsStop : PlanView → List ℕ → List ℕ → Stop → Type 0
 IsStackSumOfJobsStop plan indices path stop =
     (error : CountError) × (IsCountError plan indices error × IsCountErrorStop path error stop)
 
--- why a command stopped: the runs of the jobs at these indices could not be counted: memory ran out, no thread could be started, or the
--- call stacks of a profile cannot be summed up
+-- why a command stopped: the jobs at these indices could not be counted, because memory ran out, no thread could be started, or, for a
+-- profile, the counts with call stacks could not be added up
 abbrev pub IsUncountedStop : View → PlanView → List ℕ → List ℕ → Stop → Type 0
 IsUncountedStop (view.Cover csv) plan indices path stop = IsRunErrorStop stop
 IsUncountedStop (view.Profile format) plan indices path stop = IsStackSumOfJobsStop plan indices path stop
 
--- why a command stopped: no table for the view was found: the table at the given path cannot be used, or no path is given and the runs
--- could not be counted
+-- why a command stopped: there is no table for the view; the table at the given path cannot be used, or no path is given and the jobs could
+-- not be counted
 abbrev pub IsNoViewTableStop : Option FileContents → RunArgs → View → Option (List ℕ) → PlanView → List ℕ → Stop → Type 0
 IsNoViewTableStop contents args requested_view None plan indices stop = IsUncountedStop requested_view plan indices args.list.now stop
 IsNoViewTableStop contents args requested_view (Some path) plan indices stop =
     IsMismatchedTableStop contents requested_view path (images_of plan.results (jobs_at plan indices)) stop
 
--- ---- too many steps
+-- ---- sums that do not fit in 64 bits
 
--- the path that a message about counts names: the path of the table, or else the path of the list
+-- the path to which a message about counts refers: that of the table, or else that of the list
 abbrev pub counts_source : RunArgs → List ℕ
 counts_source args = unwrap_or (optional_text args.counts) args.list.now
 
--- the message that the sum of an image's call stacks does not fit in 64 bits
+-- the message for an image whose sum over the call stacks does not fit in 64 bits
 abbrev pub past_64_bits_message : List ℕ → List ℕ → List ℕ
 past_64_bits_message source path = codes "rvtest: " ++ printable_text source ++ codes ": " ++ printable_text path
     ++ codes ": the sum of its stacks does not fit in 64 bits\n"
 
--- the stop reports that the call stacks of an image have 2^64 or more steps or calls, or that memory ran out
+-- why a command stopped: the call stacks of an image have 2^64 or more steps or calls, or memory ran out
 abbrev pub IsPast64BitsStop : CountTable → List ImageFileView → List ℕ → Stop → Type 0
 IsPast64BitsStop table images source stop = (path : List ℕ)
     × ((image_past_64_bits table images ≡ Some path) × IsStop 2 (past_64_bits_message source path) stop)
@@ -103,8 +104,8 @@ abbrev pub IsTableTextStop : View → CountTable → List ImageFileView → List
 IsTableTextStop (view.Cover csv) table images source stop = stop ≡ stops.OutOfMemory
 IsTableTextStop (view.Profile format) table images source stop = (stop ≡ stops.OutOfMemory) ⊎ IsPast64BitsStop table images source stop
 
--- why a command stopped: a table for the jobs at these indices was found, but its view could not be written because memory ran out or, for
--- a profile, a sum does not fit in 64 bits
+-- why a command stopped: there is a table for the jobs at these indices, but its view could not be written because memory ran out or, for a
+-- profile, because a sum does not fit in 64 bits
 abbrev pub IsViewTextStop : Option FileContents → RunArgs → View → PlanView → List ℕ → Stop → Type 0
 IsViewTextStop contents args requested_view plan indices stop = (table : CountTable)
     × (IsTableForView contents requested_view (optional_text args.counts) plan indices table
@@ -112,7 +113,7 @@ IsViewTextStop contents args requested_view plan indices stop = (table : CountTa
 
 -- ---- the command
 
--- why a command stopped: memory ran out, no table for the view was found, or its view could not be written
+-- why a command stopped: memory ran out, there is no table for the view, or the view could not be made from it
 abbrev pub IsViewNotMadeStop : Option FileContents → RunArgs → View → PlanView → List ℕ → Stop → Type 0
 IsViewNotMadeStop contents args requested_view plan indices stop = (stop ≡ stops.OutOfMemory)
     ⊎ (IsNoViewTableStop contents args requested_view (optional_text args.counts) plan indices stop
@@ -126,12 +127,12 @@ pub record IsNoViewOfJobsStop (contents : Option FileContents) (args : RunArgs) 
   pub planned : IsPlanFor (contents_below (optional_text args.root) contents) jobs indices plan unread
   pub not_made : IsViewNotMadeStop contents args requested_view plan indices stop
 
--- why a command stopped: memory ran out, a write to standard output failed, or the view of the jobs at these indices could not be made
+-- why a command stopped: memory ran out, standard output could not be written, or the view of the jobs at these indices could not be made
 abbrev pub IsViewFailedStop : Option FileContents → RunArgs → View → List Job → List ℕ → Stop → Type 0
 IsViewFailedStop contents args requested_view jobs indices stop = (stop ≡ stops.OutOfMemory)
     ⊎ ((stop ≡ stops.WriteFailed) ⊎ IsNoViewOfJobsStop contents args requested_view jobs indices stop)
 
--- why a command stopped: the requested jobs were found, but their view could not be written
+-- why a command stopped: the requested jobs were determined, but their view could not be written
 pub record IsRequestedViewFailedStop (contents : Option FileContents) (args : RunArgs) (requested_view : View) (stop : Stop) : Type 0 where
   pub jobs : List Job
   pub selection : List Bool
@@ -141,6 +142,6 @@ pub record IsRequestedViewFailedStop (contents : Option FileContents) (args : Ru
   pub requested_jobs : AreRequestedJobs contents args jobs (Some selection) shard old_rows notes
   pub failed : IsViewFailedStop contents args requested_view jobs (selected_job_indices selection) stop
 
--- why a command stopped: the requested jobs could not be found, or their view could not be written
+-- why a command stopped: the requested jobs could not be determined, or their view could not be written
 abbrev pub IsViewStop : Option FileContents → RunArgs → View → Stop → Type 0
 IsViewStop contents args requested_view stop = IsJobRequestStop contents args stop ⊎ IsRequestedViewFailedStop contents args requested_view stop

@@ -31,12 +31,12 @@ abbrev pub IsRunTableForView : View → PlanView → List ℕ → CountTable →
 IsRunTableForView (view.Cover csv) plan indices table = IsTableOfJobsAt plan indices table
 IsRunTableForView (view.Profile format) plan indices table = IsTableWithStacks plan indices table
 
--- whether the table has the counts that the view needs: call stacks for a profile, and any counts for coverage
+-- whether the table has the counts that the view needs: a profile needs call stacks, while any table will do for coverage
 abbrev pub has_counts_for : View → CountTable → Bool
 has_counts_for (view.Cover csv) table = true
 has_counts_for (view.Profile format) table = has_stacks table
 
--- `text` is the requested view of these images, computed from the table: their coverage or their profile
+-- `text` is the requested view of these images, made from the table: their coverage or their profile
 abbrev pub IsViewText : View → CountTable → List ImageFileView → List ℕ → Type 0
 IsViewText (view.Cover csv) table images text = IsCoverText csv table images text
 IsViewText (view.Profile format) table images text = IsProfileText format table images text
@@ -63,7 +63,8 @@ IsViewOfPlan contents args requested_view plan indices text = (table : CountTabl
 
 -- ---- the command
 
--- the notes about missing images and refused jobs went to standard error, and then the view of the jobs at these indices was written
+-- the notes about missing images and refused jobs were written to standard error, and then the view of the jobs at these indices was
+-- written
 pub record IsViewOfJobsWritten (contents : Option FileContents) (args : RunArgs) (requested_view : View) (jobs : List Job) (indices : List ℕ)
     (before after : CommandOutputs) : Type 0 where
   pub plan : PlanView
@@ -81,7 +82,7 @@ IsViewOfSelectedWritten contents args requested_view jobs None before after = af
 IsViewOfSelectedWritten contents args requested_view jobs (Some selection) before after =
     IsViewOfJobsWritten contents args requested_view jobs (selected_job_indices selection) before after
 
--- the notes about the choice went to standard error, and then the view of the requested jobs was written; the status is 0
+-- the notes about the choice were written to standard error, and then the view of the requested jobs was written; the status is 0
 pub record IsViewWritten (contents : Option FileContents) (args : RunArgs) (requested_view : View) (status : ℕ) (before after : CommandOutputs) : Type 0 where
   pub jobs : List Job
   pub selection : Option (List Bool)

@@ -13,32 +13,32 @@ use Rattle.rvtest_app.specs.Outlets.{file_path_at}
 
 -- ---- texts
 
--- the stop for an error in writing to standard output: that memory ran out, or that the write failed
+-- the stop for an error in writing to standard output: memory ran out, or the write failed
 abbrev pub stop_of_write_error : WriteError → Stop
 stop_of_write_error write_error.OutOfMemory = stops.OutOfMemory
 stop_of_write_error write_error.Failed = stops.WriteFailed
 
--- the stop reports that a write to the file for the path failed for this reason, or that memory ran out
+-- why a command stopped: a write to the file at the path failed for this reason, or memory ran out
 abbrev pub IsWriteFailedForReasonStop : List ℕ → ErrorKind → Stop → Type 0
 IsWriteFailedForReasonStop path reason stop = IsStop 3 (path_message path (write_error_text reason)) stop
 
--- the stop reports that writing the file for the path failed, or that memory ran out
+-- why a command stopped: a write to the file at the path failed, or memory ran out
 abbrev pub IsWriteFailedStop : List ℕ → Stop → Type 0
 IsWriteFailedStop path stop = (reason : ErrorKind) × IsWriteFailedForReasonStop path reason stop
 
--- the stop reports this error in writing the file for the path: memory ran out, or a write failed
+-- why a command stopped: writing to the file at the path ended with this error
 abbrev pub IsWriteErrorStop : List ℕ → WriteError → Stop → Type 0
 IsWriteErrorStop path write_error.OutOfMemory stop = stop ≡ stops.OutOfMemory
 IsWriteErrorStop path write_error.Failed stop = IsWriteFailedStop path stop
 
--- why a command stopped: the text could not be written to the file for the path, or to standard output if there is no path
+-- why a command stopped: the text could not be written to the file at the path, or to standard output if there is no path
 abbrev pub IsTextNotWrittenStop : Option (List ℕ) → Stop → Type 0
 IsTextNotWrittenStop None stop = (stop ≡ stops.OutOfMemory) ⊎ (stop ≡ stops.WriteFailed)
 IsTextNotWrittenStop (Some path) stop = IsWriteFailedStop path stop
 
 -- ---- files
 
--- the stop reports that the file for the path could not be opened, for some reason
+-- why a command stopped: the file at the path could not be opened
 abbrev pub IsFileNotOpenedStop : List ℕ → Stop → Type 0
 IsFileNotOpenedStop path stop = (error : FileError) × IsFileErrorStop path error stop
 
@@ -54,11 +54,11 @@ IsFileStop path stop = IsSomeAnd path (λ path. IsFileNotOpenedStop path stop �
 abbrev pub IsEitherFileStop : Option (List ℕ) → Option (List ℕ) → Stop → Type 0
 IsEitherFileStop report junit stop = IsFileStop report stop ⊎ IsFileStop junit stop
 
--- why a command stopped: memory ran out, a write to a standard stream failed, or one of the two files could not be created
+-- why a command stopped: memory ran out, a standard stream could not be written, or one of the two files could not be created
 abbrev pub IsOutputWriteStop : Option (List ℕ) → Option (List ℕ) → Stop → Type 0
 IsOutputWriteStop report junit stop = (stop ≡ stops.OutOfMemory) ⊎ ((stop ≡ stops.WriteFailed) ⊎ IsEitherFileStop report junit stop)
 
--- why a command stopped: memory ran out, a write to a standard stream failed, or the file of one of the two paths could not be created; a
--- path may be standard output
+-- why a command stopped: memory ran out, a standard stream could not be written, or the file at one of the two paths could not be created;
+-- a path can also be `-` (standard output)
 abbrev pub IsOutputStop : Option (List ℕ) → Option (List ℕ) → Stop → Type 0
 IsOutputStop report_path junit_path stop = IsOutputWriteStop (file_path_at report_path) (file_path_at junit_path) stop

@@ -1,4 +1,4 @@
--- A text that a command writes to a file, or to standard output if no file is named.
+-- Writing a text to a file, or to standard output if no file is named.
 use Rattle.std.specs.Prelude.{◌≡◌, ℕ, Bool, true, false, List, Option, Some, None, codes}
 use Rattle.std.specs.Io.KnownBytes.{Appends}
 use Rattle.rv_command.specs.declared.stop.Stop.{Stop}
@@ -12,15 +12,15 @@ abbrev pub written_path : Option (List ℕ) → List ℕ
 written_path (Some path) = path
 written_path None = codes "-"
 
--- the text was written to the file at the path, or to standard output if the path is `-`; without a path nothing was written; nothing else
--- was output
+-- the text was written to the file at the path, or to standard output if the path is `-`, and nothing else was written; without a path
+-- nothing was written
 pub record IsWrittenAt (path : Option (List ℕ)) (text : List ℕ) (before after : CommandOutputs) : Type 0 where
   pub out : Appends before.out after.out (stdout_at path text)
   pub errors : after.errors ≡ before.errors
   pub failures : after.failures ≡ before.failures
   pub committed : AreFilesCommitted before.committed after.committed (Some (file_at path text))
 
--- why a command stopped: if the Bool is true, a write to standard output failed, and otherwise the file for the path could not be created
+-- why a command stopped: standard output could not be written (the Bool is true), or the file at the path could not be created
 abbrev pub IsTextWriteFailedStop : Bool → List ℕ → Stop → Type 0
 IsTextWriteFailedStop true path stop = stop ≡ stops.WriteFailed
 IsTextWriteFailedStop false path stop = IsFileNotCreatedStop path stop

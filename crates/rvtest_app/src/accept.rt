@@ -49,19 +49,19 @@ use std::alloc::{AllocError, Global};
 use std::sync::Wait;
 use std::thread::Threads;
 
-// The list at the path in the arguments, and the selection of the chosen jobs.
+// The job list of an `accept` command: its text, its jobs, and which of them are chosen.
 #[derive(Drop)]
 struct ChosenList {
     text: Vec<u8>,
     jobs: JobList,
-    // `None` if no job is chosen.
+    // Whether each job is chosen; `None` if the command does nothing, because `--failed` was given and no job failed.
     chosen: Option<Vec<bool>>,
-    // The notes about the choice.
+    // The notes about the choice, which go to standard error.
     notes: Vec<u8>,
     ghost same_length: { ForSome chosen (λ selection. length selection.items ≡ length jobs) },
 }
 
-// Jobs without their expectations, and the selection of those that run.
+// The jobs of a list without their expectations, and whether each of them is to run.
 #[derive(Drop)]
 struct BareJobs {
     jobs: JobList,
@@ -69,7 +69,7 @@ struct BareJobs {
     ghost same_length: { length selection.items ≡ length jobs },
 }
 
-// What the runs of the jobs change: the texts for golden files, the golden files, and the new list.
+// What `accept` changes: the text that each run has for a golden file, the golden files, and the new list.
 #[derive(Drop)]
 struct AcceptChanges {
     golden_texts: Vec<GoldenText>,
@@ -77,8 +77,9 @@ struct AcceptChanges {
     new: NewList,
 }
 
-/// Runs jobs without their expectations, reports what changes if their actual results become the expected ones, and writes it unless
-/// `--check` is given. The status is 1 if a job or file is skipped, or with `--check`, if a file would change; otherwise it is 0.
+/// Runs jobs without their expectations and makes their actual results the expected ones: reports what changes, and unless `--check` is
+/// given, writes the golden files and the list. The status is 1 if a job or file is skipped or if `--check` is given and a file would
+/// change; otherwise it is 0.
 pub(crate) fn accept_runs<
     R: Threads + Wait + Sync,
     D: Inputs,
@@ -93,10 +94,10 @@ pub(crate) fn accept_runs<
     ensures status_bound { IfOk result (λ status. status ≤ 1) }
     ensures accepted { IfOk result (λ status. IsAcceptedAt (D.contents host.now.inputs.now) args.now status
         (outputs_of F.committed O.accepted E.accepted E.failure_count destinations.old) (outputs_of F.committed O.accepted E.accepted E.failure_count destinations.new)) }
-    // A check opens no file for writing, whatever its result.
+    // With `--check`, no file is opened for writing, not even after an error.
     ensures check_writes_nothing { args.now.check ≡ true → destinations.new.files ≡ destinations.old.files }
     ensures stopped { IfErr result (IsAcceptStop (D.contents host.now.inputs.now) args.now) }
-    // No input is overwritten, except accepted files.
+    // No input is overwritten, except the list and the golden files, which `accept` updates.
     ensures inputs_preserved { AreAcceptInputsPreserved (D.contents host.now.inputs.now) args.now (F.committed destinations.old.files) (F.committed destinations.new.files) }
 {
     let list = chosen_list(host, args)?;
@@ -107,7 +108,7 @@ pub(crate) fn accept_runs<
     }
 }
 
-// Runs the jobs that `accept` needs for the chosen ones, and accepts the results of the chosen ones. Returns the exit status.
+// Runs the chosen jobs and the jobs that they are compared with, and accepts the results of the chosen ones. Returns the exit status.
 fn accept_chosen<
     R: Threads + Wait + Sync,
     D: Inputs,
@@ -145,7 +146,8 @@ fn accept_chosen<
     write_accepted(host, args, &list, &changes, destinations)
 }
 
-// Returns the jobs to run, or an error if a file that `accept` would write is one of its inputs or is outside of the directory.
+// Returns the jobs to run, without their expectations, after writing the warnings about golden files outside of the directory. Returns an
+// error if a file that `accept` would write is one of its inputs, or is outside of the directory without `--outside`.
 fn checked_jobs<R, D, F: Outputs + Drop, O: Sink + Drop, E: Sink + Drop>(
     host: &Host<'_, R, D>,
     args: &AcceptArgs<'_>,
@@ -171,7 +173,8 @@ fn checked_jobs<R, D, F: Outputs + Drop, O: Sink + Drop, E: Sink + Drop>(
     Ok(selected)
 }
 
-// Returns the runs of the jobs, each accepted or skipped by the verdict on its row; `None` for a job that did not run.
+// Returns the run of each job with the decision to accept or to skip it, which follows from the verdict on its row; `None` for a job that
+// did not run.
 fn judge_rows<R, D: Inputs>(
     host: &Host<'_, R, D>,
     args: &AcceptArgs<'_>,
@@ -204,7 +207,7 @@ fn acceptance_of(ends: bool) -> Acceptance
     }
 }
 
-// Reads the list at the path in the arguments, and returns it with the selection of the chosen jobs and the notes about the choice.
+// Reads the list at the path in the arguments, and returns it with the chosen jobs and the notes about the choice.
 fn chosen_list<R, D: Inputs>(
     host: &Host<'_, R, D>,
     args: &AcceptArgs<'_>,
@@ -234,8 +237,7 @@ fn chosen_list<R, D: Inputs>(
     })
 }
 
-// Returns the jobs of a list without their expectations, with the selection of the jobs that run: the chosen jobs and the jobs that they
-// need.
+// Returns the jobs of a list without their expectations. Selected to run are the chosen jobs and the jobs that they are compared with.
 fn selected_jobs(alloc: Global, list: &ChosenList, chosen: &[bool]) -> Result<BareJobs, AllocError>
     requires { length chosen.now ≡ length list.now.jobs }
     ensures jobs { IfOk result (λ selected. selected.jobs ≡ map without_expectations list.now.jobs) }
@@ -247,7 +249,7 @@ fn selected_jobs(alloc: Global, list: &ChosenList, chosen: &[bool]) -> Result<Ba
     Ok(BareJobs { jobs, selection })
 }
 
-// Runs the selected jobs, and returns their rows, each at the index of its job.
+// Runs the selected jobs, and returns one entry per job: its row, or `None` for a job that is not selected.
 fn run_selected<
     R: Threads + Wait + Sync,
     D: Inputs,
@@ -286,7 +288,7 @@ fn run_selected<
     }
 }
 
-// Returns the new golden files and the new list that result if the runs are accepted, with the current contents of the golden files.
+// Returns the golden files, with their current and new contents, and the new list, as they are if the runs are accepted.
 fn changes_of_runs<R, D: Inputs>(
     host: &Host<'_, R, D>,
     args: &AcceptArgs<'_>,

@@ -21,18 +21,19 @@ use rvtest_cli::AcceptArgs;
 use std::alloc::{AllocError, Global};
 use std::path::Path;
 
-// The inputs of `accept`: its list, the files that it must not write, and the golden files of all jobs.
+// The files that `accept` reads: its list, the files that it must not write, and the golden files of all jobs.
 #[derive(Drop)]
 struct AcceptReads<'a> {
     list: InputFiles<'a>,
-    // The report of `--failed`, and the images of all jobs.
+    // The report that `--failed` names, and the images of all jobs.
     inputs: InputFiles<'a>,
     // The golden files of all jobs.
     golden: InputFiles<'a>,
 }
 
 /// Returns an error if writing the list or a golden file of a selected job would overwrite an input, or if a golden file is outside of the
-/// directory and `--outside` is not given. Otherwise returns the warnings about golden files outside of the directory.
+/// directory and `--outside` is not given. Otherwise returns the warnings about golden files outside of the directory, which are allowed
+/// with `--outside`.
 pub(crate) fn reject_accept_overwrites<F: Outputs>(
     files: &F,
     alloc: Global,
@@ -73,7 +74,7 @@ fn input_files<'a, F: Outputs>(
     })
 }
 
-// Returns the files that `accept` must not write, apart from the list: the report of `--failed`, and the images of all jobs.
+// Returns the files that `accept` must not write, apart from the list: the report that `--failed` names, and the images of all jobs.
 fn inputs_of_accept<'a>(
     alloc: Global,
     args: &AcceptArgs<'_>,
@@ -183,12 +184,13 @@ fn reject_golden_overwrite<F: Outputs>(
         &reads.inputs,
         reads.inputs.first_among(replaced),
     )?;
-    // Nor may it overwrite a golden file with another path.
+    // Two paths that lead to one golden file are an error, too.
     let other = first_with_other_path(&reads.golden, replaced, path);
     reject_if_found(alloc, golden, &reads.golden, other)
 }
 
-// Returns the index of the first input whose identity is in `identities` and whose path is not `path`; `None` if there is none.
+// Returns the index of the first input that is one of the files with these identities, but has another path than `path`; `None` if there is
+// none.
 fn first_with_other_path(inputs: &InputFiles<'_>, identities: &[Text], path: &str) -> Option<usize>
     ensures { IfSome result (λ index. index < length inputs.now.paths.items) }
 {
@@ -202,7 +204,7 @@ fn first_with_other_path(inputs: &InputFiles<'_>, identities: &[Text], path: &st
     None
 }
 
-// Returns an error if there is an index `first`: of the input that writing the golden file would overwrite.
+// Returns an error if `first` is given: it is the index of an input that writing the golden file would overwrite.
 fn reject_if_found(
     alloc: Global,
     golden: &InputPath<'_>,
@@ -219,7 +221,7 @@ fn reject_if_found(
     }
 }
 
-// Returns the error that writing a golden file would overwrite `input`.
+// Returns the error for a golden file that would overwrite `input`.
 fn golden_overwrite_stop(alloc: Global, golden: &InputPath<'_>, input: &InputPath<'_>) -> Stop
     ensures { IsOverwriteReported (output_role_text golden.now.role) (path_buf_bytes golden.now.path) result }
 {
@@ -229,7 +231,7 @@ fn golden_overwrite_stop(alloc: Global, golden: &InputPath<'_>, input: &InputPat
     }
 }
 
-// Returns how a message refers to an output file: by its option, or by the job whose key names it.
+// Returns how a message refers to an output file: by its option, or by the job and the key in the list that name the file.
 fn output_role_text(alloc: Global, role: InputRole<'_>) -> Result<String, AllocError>
     ensures { IfOk result (λ text. string_bytes text ≡ output_role_text role.entry) }
 {
@@ -239,7 +241,7 @@ fn output_role_text(alloc: Global, role: InputRole<'_>) -> Result<String, AllocE
     }
 }
 
-// Returns how a message refers to an output file that a job names: by the job's name and the key.
+// Returns how a message refers to an output file that a job names: by the name of the job and the key.
 fn job_output_text(alloc: Global, key: &str, job: &str) -> Result<String, AllocError>
     ensures { IfOk result (λ text. string_bytes text ≡ job_output_text key.now job.now) }
 {
@@ -250,14 +252,15 @@ fn job_output_text(alloc: Global, key: &str, job: &str) -> Result<String, AllocE
     Ok(text)
 }
 
-// The directory in which golden files are written, and whether they may be written outside of it.
+// The directory that golden files should be in, and whether they may be written outside of it.
 #[derive(Clone, Copy)]
 struct Bounds<'a> {
     directory: &'a str,
     is_outside_allowed: bool,
 }
 
-// Returns the warnings about golden files outside of the `--root` directory, or without one, of the list's directory.
+// Returns the warnings about golden files outside of the `--root` directory; without `--root`, outside of the directory that contains the
+// list.
 fn outside_notes<F: Outputs>(
     files: &F,
     alloc: Global,
@@ -287,7 +290,7 @@ fn directory_of(path: &str) -> &str {
     }
 }
 
-// Appends a warning for each golden file outside of the directory, or returns an error if writing there is not allowed.
+// Appends a warning for each golden file outside of the directory; returns an error if writing outside is not allowed.
 fn push_outside_notes<F: Outputs>(
     files: &F,
     alloc: Global,
@@ -307,7 +310,7 @@ fn push_outside_notes<F: Outputs>(
     }
 }
 
-// Appends a warning if the golden file is outside of the directory and writing there is allowed; returns an error if it is not allowed.
+// If the golden file is outside of the directory, appends a warning, or returns an error if writing outside is not allowed.
 fn check_inside_directory<F: Outputs>(
     files: &F,
     alloc: Global,
@@ -332,14 +335,14 @@ fn check_inside_directory<F: Outputs>(
 const OUTSIDE_HELP: &str =
     "; use --root DIR to resolve relative paths against DIR, or --outside to write it\n";
 
-// Returns the error that a golden file is outside of `directory`.
+// Returns the error for a golden file outside of `directory`.
 fn outside_stop(alloc: Global, directory: &str, golden: &InputPath<'_>) -> Stop
     ensures { IsAcceptOverwriteStop result }
 {
     Stop::rejection(outside_message(alloc, directory, golden))
 }
 
-// Returns the message that a golden file is outside of `directory`, with the hint that `--outside` allows this.
+// Returns the message for a golden file outside of `directory`, with the hint that `--outside` allows this.
 fn outside_message(
     alloc: Global,
     directory: &str,
@@ -354,7 +357,7 @@ fn outside_message(
     Ok(text)
 }
 
-// Appends the text that a golden file is outside of `directory`: `head`, how messages refer to the file, its path, and the directory.
+// Appends the text for a golden file outside of `directory`: `head`, which job names the file, its path, and the directory.
 fn push_outside_text(
     alloc: Global,
     text: &mut Vec<u8>,
@@ -371,14 +374,14 @@ fn push_outside_text(
     push_quoted_text(text, directory)
 }
 
-// Appends the beginning of a message about a golden file outside of the directory: `head`, and `role`, which describes the file.
+// Appends the beginning of a message about a golden file outside of the directory: `head`, and `role`, which says how the file is named.
 fn push_outside_prefix(text: &mut Vec<u8>, head: &str, role: &str) -> Result<(), AllocError>
     ensures { OnOk result (text.new.items ≡ text.old.items ++ outside_prefix head.now role.now) }
 {
     push_spans(text, &[Span::Text(head), Span::Text(role)])
 }
 
-// Appends the middle of the message: the path of the golden file in double quotes, and "is outside the directory".
+// Appends the middle of such a message: the path of the golden file in double quotes, and "is outside the directory".
 fn push_outside_path(text: &mut Vec<u8>, path: &str) -> Result<(), AllocError>
     ensures { OnOk result (text.new.items ≡ text.old.items ++ outside_path path.now) }
 {
@@ -392,7 +395,7 @@ fn push_outside_path(text: &mut Vec<u8>, path: &str) -> Result<(), AllocError>
     )
 }
 
-// Appends a text in double quotes.
+// Appends a text in double quotes, with unprintable bytes escaped.
 fn push_quoted_text(text: &mut Vec<u8>, quoted: &str) -> Result<(), AllocError>
     ensures { OnOk result (text.new.items ≡ text.old.items ++ quoted_text quoted.now) }
 {

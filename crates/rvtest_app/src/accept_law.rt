@@ -1,4 +1,4 @@
-//! Laws about what `accept` writes; there is nothing to run.
+//! Laws of what `accept` writes. They are proved and have no code.
 
 ghost use Rattle.std.specs.Prelude.{◌≡◌, ℕ, Bool, IsTrue, List, Ok, Some};
 ghost use Rattle.rv_accept.specs.Passing.{is_pass_or_none};
@@ -12,9 +12,9 @@ ghost use Rattle.rvtest_app.specs.AcceptLaw.{HaveOneTextPerFile, IsRowOfRun, IsS
 ghost use Rattle.rvtest_app.specs.Accepts.{IsAcceptOfSelected, written_files};
 ghost use Rattle.rvtest_app.specs.CommandOutputs.{CommandOutputs};
 
-/// After `accept`, a job that it accepted does not fail in a `run` with the new files: its verdict is pass, or none if it has no
+/// Proves that a job that `accept` accepted does not fail in a `run` with the new files: its verdict is pass, or none if it has no
 /// expectations. This holds if no golden file of the job was skipped, the job has no `same_as`, golden files whose paths lead to one file
-/// get the same text, and the run can read the job's files.
+/// get equal texts, and the run can read the job's files.
 pub fn accepted_jobs_pass()
     ensures { (args : Words) (before after : FileContents) (bytes : List ℕ) (jobs : List Job) (chosen : List Bool)
         (status : ℕ) (from to : CommandOutputs) (index : ℕ) (job : Job) (row : Row)

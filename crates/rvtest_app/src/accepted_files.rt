@@ -1,4 +1,4 @@
-//! The files that `accept` reads and writes.
+//! Reading and writing the files that `accept` updates.
 
 ghost use Rattle.std.specs.Prelude.{◌≡◌, ◌++◌, ◌∷◌, [], IfErr, IfOk, IsTrue, OnOk, Some, option_map};
 ghost use Rattle.rv_command.specs.Stops.{IsListUnreadStop};
@@ -19,7 +19,7 @@ use rv_files::{
 use std::alloc::{AllocError, Global};
 use std::io::ErrorKind;
 
-/// Returns the golden files of the targets, with their current contents. Their paths are resolved against `root` if given.
+/// Returns a golden file with its current contents for each target. The paths of the targets are resolved against `root` if given.
 pub(crate) fn read_golden_files<D: Inputs>(
     inputs: &D,
     alloc: Global,
@@ -66,7 +66,7 @@ pub(crate) fn golden_file_path(
     Text::copy(alloc, resolved.as_str())
 }
 
-// Reads the file at a path. Returns `None` if there is no file.
+// Reads the golden file at a path. Returns `None` if it does not exist, and an error if it is larger than 16 MiB or cannot be read.
 fn read_golden_file<D: Inputs>(inputs: &D, alloc: Global, path: &str) -> Result<Option<Bytes>, Stop>
     ensures contents { IfOk result (IsOldContentsAt (D.contents inputs.now) path.now) }
     ensures stopped { IfErr result (IsListUnreadStop (D.contents inputs.now) path.now) }
@@ -88,7 +88,7 @@ fn read_golden_file<D: Inputs>(inputs: &D, alloc: Global, path: &str) -> Result<
     }
 }
 
-/// Returns an error if the list or a golden file that will be written has changed since it was read.
+/// Returns an error if the list or a golden file changed since it was read. Only files that are going to be written are checked.
 pub(crate) fn check_files_are_unchanged<D: Inputs>(
     inputs: &D,
     alloc: Global,
@@ -109,7 +109,7 @@ pub(crate) fn check_files_are_unchanged<D: Inputs>(
     check_unchanged(inputs, alloc, list.path, Some(list.text))
 }
 
-// Returns the old contents of a golden file; `None` if there was no file.
+// Returns the contents of a golden file as they were read; `None` if it did not exist.
 fn old_text(file: &GoldenFile) -> Option<&[u8]> {
     match &file.old {
         Some(old) => Some(old.as_slice()),
@@ -117,7 +117,7 @@ fn old_text(file: &GoldenFile) -> Option<&[u8]> {
     }
 }
 
-// Returns an error if the file at the path no longer has the contents `old`, where `None` stands for a missing file.
+// Returns an error if the contents of the file at the path are no longer `old`; `None` says that it did not exist.
 fn check_unchanged<D: Inputs>(
     inputs: &D,
     alloc: Global,
@@ -135,7 +135,7 @@ fn check_unchanged<D: Inputs>(
     }
 }
 
-// Whether the file contents `current` and `old` are equal; `None` stands for a missing file.
+// Whether the file contents `current` and `old` are equal; `None` says that the file does not exist.
 fn contents_match(current: &Option<Bytes>, old: Option<&[u8]>) -> bool
     ensures { IsTrue result → current.now ≡ option_map (λ old. old.now) old.entry }
 {
@@ -146,7 +146,7 @@ fn contents_match(current: &Option<Bytes>, old: Option<&[u8]>) -> bool
     }
 }
 
-// Returns the error that the file at the path changed since it was read.
+// Returns the error for a file at the path that changed since it was read.
 fn changed_stop(alloc: Global, path: &str) -> Stop
     ensures { IsChangedStop path.now result }
 {
@@ -175,8 +175,8 @@ pub(crate) fn write_accepted_files<F: Outputs>(
     }
 }
 
-/// Reads back each golden file on whose text the jobs agree, and the list if it was written. Returns an error if one has other bytes: then
-/// it was overwritten through another path that leads to it.
+/// Reads the list, if it was written, and the golden files back, and returns an error if one has other contents than were written: two
+/// paths then lead to one file. Golden files for which the jobs have different texts are not read.
 pub(crate) fn check_written_files<D: Inputs>(
     inputs: &D,
     alloc: Global,
@@ -208,7 +208,7 @@ fn check_written<D: Inputs>(inputs: &D, alloc: Global, path: &str, text: &[u8]) 
     }
 }
 
-// Returns the error that the file at the path does not contain what was written.
+// Returns the error for a file at the path that does not contain what was written.
 fn other_bytes_stop(alloc: Global, path: &str) -> Stop
     ensures { IsOtherBytesStop path.now result }
 {

@@ -20,7 +20,8 @@ use rv_rows::{Plan, gather, read_faults};
 use rvtest_cli::CheckArgs;
 use std::alloc::{AllocError, Global};
 
-/// Returns a report of all errors in a list or in the files of its jobs, without running any job. The status is 2 if there is one.
+/// Checks a list and the files of its jobs without running any job, and returns a report of all errors. The status is 2 if there is an
+/// error, and otherwise 0.
 pub(crate) fn check_list<D: Inputs>(
     inputs: &D,
     alloc: Global,
@@ -35,7 +36,7 @@ pub(crate) fn check_list<D: Inputs>(
     check_list_text(inputs, alloc, args, text.as_slice())
 }
 
-// Returns the report about the text of a list: its errors or, if it has none, the problems with the files of its jobs.
+// Returns the report about the text of a list: its errors or, if it has none, the refused jobs and warnings.
 fn check_list_text<D: Inputs>(
     inputs: &D,
     alloc: Global,

@@ -20,7 +20,7 @@ use rv_job_text::{
 use rv_rows::{ExpectedEnd, Job, Kept, Plan, Refusal, RowEnd, image_refusal_at, refusal_at};
 use std::alloc::{AllocError, Global};
 
-/// A list whose files were read, with the line on which each job begins.
+/// A list whose files were read: its path, the lines on which its jobs begin, its plan, and the files that could not be read.
 #[derive(Clone, Copy)]
 pub(crate) struct CheckedList<'a> {
     pub(crate) path: &'a str,
@@ -30,7 +30,7 @@ pub(crate) struct CheckedList<'a> {
     ghost at_most_max: { length plan.now.jobs ≤ max_jobs },
 }
 
-// An expectation file of a job: its contents as the plan has them, and its path; both are `None` if the job names no file.
+// An expectation file of a job: its contents as the plan holds them, and its path. Both are `None` if the job names no such file.
 #[derive(Clone, Copy)]
 struct Reference<'a> {
     contents: Option<&'a Kept>,
@@ -38,7 +38,7 @@ struct Reference<'a> {
 }
 
 impl<'a> CheckedList<'a> {
-    /// Appends a line for each file that makes a job refused, and returns the number of refused jobs.
+    /// Appends a line for each file because of which a job is refused, and returns the number of refused jobs.
     pub(crate) fn push_refused_jobs(
         &self,
         alloc: Global,
@@ -83,7 +83,7 @@ impl<'a> CheckedList<'a> {
         }
     }
 
-    // Appends the lines for the files that make the job at index `index` refused.
+    // Appends the lines for the files because of which the job at index `index` is refused.
     #[tactic(auto, unfolding(crate::specs::CheckText::refused_files_text))]
     fn push_refused_files(
         &self,
@@ -110,7 +110,7 @@ impl<'a> CheckedList<'a> {
         self.push_reference_if_unread(alloc, text, index, console)
     }
 
-    // Appends the line for the image of the job at index `index` if the image makes the job refused.
+    // Appends a line if the job at index `index` is refused because of its image.
     #[tactic(auto, unfolding(rv_job_text::specs::RefusalReasons::ending_reason))]
     fn push_image_if_refused(
         &self,
@@ -133,7 +133,7 @@ impl<'a> CheckedList<'a> {
         }
     }
 
-    // Appends the line for an expectation file of the job at index `index` if the file could not be read.
+    // Appends a line if an expectation file of the job at index `index` could not be read or is too long.
     fn push_reference_if_unread(
         &self,
         alloc: Global,
@@ -160,7 +160,7 @@ impl<'a> CheckedList<'a> {
         }
     }
 
-    // Appends the line for a file that makes the job at index `index` refused.
+    // Appends the line for a file because of which the job at index `index` is refused.
     #[tactic(auto, unfolding(crate::specs::CheckText::refused_file_line))]
     fn push_refused_file(
         &self,
@@ -179,7 +179,7 @@ impl<'a> CheckedList<'a> {
         push_text(text, "\n")
     }
 
-    /// Appends a warning for each job that expects two ends, and returns their number.
+    /// Appends a warning for each job that expects both an exit code and another end, and returns their number.
     pub(crate) fn push_warned_jobs(&self, text: &mut Vec<u8>) -> Result<usize, AllocError>
         ensures text { OnOk result (text.new.items ≡ text.old.items ++ texts_of_jobs
             (warned_job_text self.now.path.now self.now.lines.now) self.now.plan.now.jobs) }
@@ -196,7 +196,7 @@ impl<'a> CheckedList<'a> {
         Ok(warned)
     }
 
-    // Appends a warning if the job at index `index` expects two ends.
+    // Appends a warning if the job at index `index` expects both an exit code and another end.
     #[tactic(auto, unfolding(crate::specs::CheckText::warned_job_text))]
     fn push_job_if_warned(
         &self,
@@ -214,7 +214,7 @@ impl<'a> CheckedList<'a> {
         Ok(())
     }
 
-    // Appends the warning line that the job at index `index` expects two ends.
+    // Appends the warning line for the job at index `index`, which expects both an exit code and another end.
     #[tactic(auto, unfolding(crate::specs::CheckText::two_ends_line))]
     fn push_two_ends_warning(
         &self,
@@ -231,8 +231,8 @@ impl<'a> CheckedList<'a> {
         push_text(text, "\n")
     }
 
-    // Appends the beginning of a line about the job at index `index`: the path and line where it begins, the severity, its number and its
-    // name.
+    // Appends the beginning of a line about the job at index `index`: the path of the list, the line on which the job begins, the severity,
+    // and the number and name of the job.
     #[tactic(auto, unfolding(crate::specs::CheckText::job_prefix))]
     fn push_job_prefix(
         &self,
@@ -272,7 +272,7 @@ impl<'a> CheckedList<'a> {
     }
 }
 
-// Appends "refused" and the name of the refusal, and then details if they are given.
+// Appends "refused" and the name of the refusal, and then the reason if it is given.
 fn push_refusal(
     text: &mut Vec<u8>,
     refusal: Refusal,
@@ -317,7 +317,7 @@ fn push_two_ends(
     )
 }
 
-// Returns the name of the end that a job expects, as the list writes it.
+// Returns the name that a list uses for the expected end: the name of the fault, or "budget". Used only for an end that is given.
 fn expected_end_name(end: Option<ExpectedEnd>) -> &'static str
     ensures { result.now ≡ expected_end_name end }
 {

@@ -7,7 +7,7 @@ ghost use Rattle.rv_files.specs.Limits.{max_jobs};
 
 use rv_rows::Rows;
 
-/// The rows of chosen jobs, with the jobs' indices in the list.
+/// The rows of chosen jobs, with the jobs' indices in the list, in rising order.
 #[derive(Drop)]
 pub(crate) struct ChosenRows<'a> {
     /// The number of jobs in the list.

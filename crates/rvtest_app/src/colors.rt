@@ -1,4 +1,4 @@
-//! Whether results are coloured.
+//! Whether results are colored.
 
 ghost use Rattle.std.specs.Prelude.{◌≡◌};
 ghost use Rattle.rv_command.specs.Texts.{optional_text};
@@ -9,7 +9,7 @@ use crate::outlets::is_stdout_at;
 use rv_terminal::Colors;
 use rvtest_cli::Request;
 
-/// Returns the colours of a command's results, given whether standard output is a terminal that supports them.
+/// Returns whether the results of a command are colored, given whether standard output is a terminal that supports colors.
 pub(crate) fn requested_colors(request: &Request<'_>, is_terminal: bool) -> Colors
     ensures { result ≡ requested_colors request.now is_terminal }
 {
@@ -39,14 +39,14 @@ pub(crate) fn requested_colors(request: &Request<'_>, is_terminal: bool) -> Colo
     }
 }
 
-// Returns plain results (`Colors::Plain`) if an output file goes to standard output, and the given colours otherwise.
+// Returns `Colors::Plain` if an output file goes to standard output, and otherwise the given value.
 fn colors_unless_stdout_used(uses_stdout: bool, colors: Colors) -> Colors
     ensures { result ≡ colors_unless_stdout_used uses_stdout colors }
 {
     if uses_stdout { Colors::Plain } else { colors }
 }
 
-// Returns the colours that the value of `--color` requests: `always`, `never`, or otherwise coloured results only on a terminal.
+// Returns whether results are colored, as the value of `--color` says: always, never, or otherwise only on a terminal.
 fn colors_of_value(value: Option<&str>, is_terminal: bool) -> Colors
     ensures { result ≡ colors_of_value (optional_text value.entry) is_terminal }
 {
@@ -57,7 +57,7 @@ fn colors_of_value(value: Option<&str>, is_terminal: bool) -> Colors
     }
 }
 
-// Returns the colours without `--color`: coloured results on a terminal, plain results otherwise.
+// Returns whether results are colored if `--color` does not say so: only on a terminal.
 fn terminal_colors(is_terminal: bool) -> Colors
     ensures { result ≡ terminal_colors is_terminal }
 {

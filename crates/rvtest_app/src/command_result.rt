@@ -1,4 +1,4 @@
-//! The findings of commands that run no list.
+//! The results of commands that write one text to standard output.
 
 ghost use Rattle.std.specs.Prelude.{◌≡◌, IfErr, IfOk, MatchResult, OnErr, OnOk};
 ghost use Rattle.std.specs.Io.KnownBytes.{Appends};
@@ -8,14 +8,14 @@ ghost use Rattle.rv_files.specs.Sinks.{AppendsPrefix};
 use rv_command::{Stop, write_results};
 use rv_files::Sink;
 
-/// The output of a command for standard output, and its exit status.
+/// The text that a command writes to standard output, and its exit status.
 #[derive(Drop)]
 pub(crate) struct CommandResult {
     pub(crate) text: Vec<u8>,
     pub(crate) status: u8,
 }
 
-/// Writes the output of a command to standard output, and returns its exit status.
+/// Writes the text of a command's result to standard output, and returns its exit status.
 pub(crate) fn write_command_result<O: Sink>(
     out: &mut O,
     outcome: Result<CommandResult, Stop>,

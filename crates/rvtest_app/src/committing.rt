@@ -10,7 +10,7 @@ use rv_command::{Stop, file_error_stop};
 use rv_files::Outputs;
 use std::alloc::Global;
 
-/// A file that is synced to disk, with the path by which messages name it.
+/// A file that is synced to disk but not yet at its path. Messages refer to it by `path`.
 #[derive(Drop)]
 pub(crate) struct SyncedFile<'a, P: Drop, S: Drop> {
     path: &'a str,
@@ -18,15 +18,15 @@ pub(crate) struct SyncedFile<'a, P: Drop, S: Drop> {
     file: S,
 }
 
-/// The synced files of the outlets; `None` for an outlet that is not a file.
+/// // The synced files of both outlets; `None` for an outlet that is not a file.
 #[derive(Drop)]
 struct SyncedFiles<'a, P: Drop, S: Drop> {
     junit: Option<SyncedFile<'a, P, S>>,
     report: Option<SyncedFile<'a, P, S>>,
 }
 
-/// Syncs the files of both outlets to disk, and then moves both to their paths, the JUnit file first. If either cannot be synced, neither
-/// is created.
+/// Syncs the files of both outlets to disk, and then moves both to their paths, the JUnit file first. If one of them cannot be synced,
+/// neither appears at its path.
 pub(crate) fn commit_outlets<F: Outputs>(
     files: &mut F,
     alloc: Global,
@@ -46,7 +46,7 @@ pub(crate) fn commit_outlets<F: Outputs>(
     commit_both(files, alloc, junit, report)
 }
 
-// Syncs the files of both outlets to disk. If either cannot be synced, neither is created.
+// Syncs the files of both outlets to disk. If one of them cannot be synced, both are abandoned.
 fn sync_outlets<'a, F: Outputs>(
     files: &mut F,
     alloc: Global,
@@ -115,7 +115,7 @@ fn sync_outlet<'a, F: Outputs>(
     }
 }
 
-// Abandons a synced file, if there is one, so that it is not created.
+// Abandons a synced file, if there is one, so that it does not appear at its path.
 fn abandon_synced<F: Outputs>(files: &mut F, synced: Option<SyncedFile<'_, F::Place, F::Synced>>)
     ensures { F.committed files.new ≡ F.committed files.old }
 {

@@ -25,7 +25,7 @@ use rv_rows::{JobList, Plan, Row, gather_jobs, row_at};
 use rvtest_cli::ConsoleArgs;
 use std::alloc::Global;
 
-// The row of a job, the line about it, and the exit status.
+// The row of a job, its result line, and the exit status.
 #[derive(Drop)]
 struct ReportedRow {
     row: Row,
@@ -33,8 +33,8 @@ struct ReportedRow {
     status: u8,
 }
 
-/// Runs the job with the requested name, and writes its console to standard output and its result line to standard error. The status is 0
-/// if the job passed, and otherwise 1.
+/// Runs the job with the requested name, and writes its console output to standard output and its result line to standard error. The status
+/// is 0 if the job passed, and otherwise 1.
 pub(crate) fn put_job_console<D: Inputs, F: Outputs + Drop, O: Sink + Drop, E: Sink + Drop>(
     inputs: &D,
     alloc: Global,
@@ -106,7 +106,7 @@ fn run_job_at<D: Inputs>(
     run_planned_job(alloc, &plan, store.unreadable_paths(), index)
 }
 
-// Runs the job at index `index` of a plan, and returns its row, the lines about it and the exit status.
+// Runs the job at index `index` of a plan, and returns its row, its result line, and the exit status.
 fn run_planned_job(
     alloc: Global,
     plan: &Plan,

@@ -27,7 +27,8 @@ use rv_stacks::CountError;
 use rvtest_cli::CountsArgs;
 use std::alloc::{AllocError, Global};
 
-/// Adds up the tables of counts at the paths in the arguments, and writes the sum. The status is 0.
+/// Adds up the tables of counts at the paths in the arguments, writes the sum to `--out` or standard output, and its summary to standard
+/// error. The status is 0.
 pub(crate) fn put_sum_of_tables<D: Inputs, F: Outputs + Drop, O: Sink + Drop, E: Sink + Drop>(
     inputs: &D,
     alloc: Global,
@@ -38,10 +39,10 @@ pub(crate) fn put_sum_of_tables<D: Inputs, F: Outputs + Drop, O: Sink + Drop, E:
         (outputs_of F.committed O.accepted E.accepted E.failure_count destinations.old) (outputs_of F.committed O.accepted E.accepted E.failure_count destinations.new)) }
     ensures status_bound { IfOk result (λ status. status ≤ 1) }
     ensures nothing_committed { OnErr result (F.committed destinations.new.files ≡ F.committed destinations.old.files) }
-    // Only the sum may go to standard output.
+    // Nothing but the sum goes to standard output.
     ensures out_unchanged { (is_stdout (written_path (optional_text args.now.out)) ≡ true) ⊎ (destinations.new.out ≡ destinations.old.out) }
     ensures stopped { IfErr result (IsCountsStop (D.contents inputs.now) args.now) }
-    // The tables are not overwritten.
+    // No input table is overwritten.
     ensures inputs_preserved { HoldsIfCommitted (IsSumFileNotAnInput args.now) (F.committed destinations.old.files) (F.committed destinations.new.files) }
 {
     reject_sum_overwrite(&destinations.files, alloc, args)?;
@@ -53,7 +54,7 @@ pub(crate) fn put_sum_of_tables<D: Inputs, F: Outputs + Drop, O: Sink + Drop, E:
     Ok(DONE)
 }
 
-// Returns an error if the output file would overwrite a table.
+// Returns an error if writing the output file would overwrite an input table.
 fn reject_sum_overwrite<F: Outputs>(
     files: &F,
     alloc: Global,
@@ -86,7 +87,7 @@ fn sum_of_paths<D: Inputs>(inputs: &D, alloc: Global, paths: &[&str]) -> Result<
     Ok(sum)
 }
 
-// Returns the sum of `before`, the sum of the earlier tables, and the table at the path.
+// Returns the sum of `before`, the sum of the earlier tables, and the table of counts at the path.
 fn sum_with_path<D: Inputs>(
     inputs: &D,
     alloc: Global,
@@ -106,7 +107,7 @@ fn sum_with_path<D: Inputs>(
     }
 }
 
-/// Parses the text of the file at a path as a table of counts.
+/// Parses the text of the file at a path as a table of counts. The path is for error messages.
 pub(crate) fn table_of_text(alloc: Global, path: &str, text: &[u8]) -> Result<CountTable, Stop>
     ensures valid_table { IfOk result (λ table. IsValidTable table × (table_text table ≡ text.now)) }
     ensures stopped { IfErr result (IsTableFaultStop path.now text.now) }
@@ -155,7 +156,7 @@ pub(crate) fn sum_error_stop(alloc: Global, path: &str, error: SumError) -> Stop
     }
 }
 
-/// Returns the stop for an error in counting jobs with call stacks; a message about their sum names the path.
+/// Returns the stop for an error in counting jobs with call stacks. The message names the path if counts cannot be added up.
 pub(crate) fn count_error_stop(alloc: Global, path: &str, error: CountError) -> Stop
     ensures { IsCountErrorStop path.now error result }
 {
@@ -165,7 +166,7 @@ pub(crate) fn count_error_stop(alloc: Global, path: &str, error: CountError) -> 
     }
 }
 
-// Returns the message that the table at the path gives the function at this address another name than an earlier table does.
+// Returns the message for a table whose name for the function at this address differs from the name in an earlier table.
 fn two_names_message(alloc: Global, path: &str, function: u32) -> Result<Vec<u8>, AllocError>
     ensures { IfOk result (λ text. text.items ≡ two_names_message path.now function) }
 {
@@ -181,7 +182,8 @@ fn two_names_message(alloc: Global, path: &str, function: u32) -> Result<Vec<u8>
     )
 }
 
-// Returns the message that a count at `address` no longer fits in 64 bits if the table at the path is added; `count_name` names the count.
+// Returns the message for a count at `address` that no longer fits in 64 bits after the table at the path is added; `count_name` says which
+// count.
 fn count_overflow_message<'a>(
     alloc: Global,
     path: &'a str,

@@ -53,7 +53,7 @@ fn instruction_word(count: u64) -> &'static str
     }
 }
 
-// Returns "at least " for the greatest 64-bit number, which may stand for a greater one, and an empty text for any other number.
+// Returns "at least " for the greatest 64-bit number, at which the sum saturates, and an empty text for any other number.
 fn at_least_prefix(number: u64) -> &'static str
     ensures { result.now ≡ at_least_prefix number }
 {
@@ -71,7 +71,7 @@ fn executed_in_images(images: &[ImageCounts]) -> u64
     total
 }
 
-// Returns `before` plus the number of instructions that were executed at these addresses, saturating at the greatest 64-bit number.
+// Returns `before` plus the number of instructions executed at these addresses, saturating at the greatest 64-bit number.
 fn add_executed(before: u64, addresses: &[AddressCounts]) -> u64
     ensures { result ≡ capped_number (before + executed_at_addresses addresses.now) }
 {

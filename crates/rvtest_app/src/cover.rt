@@ -14,7 +14,7 @@ use rvtest_cli::{ChoosingCommand, CoverArgs};
 use std::sync::Wait;
 use std::thread::Threads;
 
-/// Writes the coverage of the images of the requested jobs, from a run of these jobs or from a table of counts. The status is 0.
+/// Writes the code coverage of the images of the requested jobs, from a run of these jobs or from a table of counts. The status is 0.
 pub(crate) fn cover_requested_jobs<
     R: Threads + Wait + Sync,
     D: Inputs,

@@ -1,5 +1,5 @@
-//! The verdicts on the jobs that `accept` runs: whether `run` passes them, and whether they differ from the jobs that they are compared
-//! with.
+//! The verdicts on the jobs that `accept` runs: whether they pass with their expectations, and whether they differ from the jobs that they
+//! are compared with.
 
 ghost use Rattle.std.specs.Prelude.{◌≡◌, ◌++◌, ◌∷◌, [], IfOk, OnOk, option_map, slice_get};
 ghost use Rattle.std.specs.List.{list_any};
@@ -19,20 +19,20 @@ use rv_files::{InputError, Inputs, read_whole_up_to};
 use rv_rows::{Job, Row, did_run};
 use std::alloc::{AllocError, Global};
 
-/// What the runs without expectations are compared with: the golden files as they are now, and the rows of other jobs.
+/// What the runs are compared with to decide the verdicts: the golden files as they are now, and the rows of other jobs.
 #[derive(Drop)]
 pub(crate) struct CurrentFiles<'x, D> {
-    /// The golden files as they are now.
+    /// Reads the golden files as they are now.
     pub inputs: &'x D,
     pub alloc: Global,
     /// The directory against which the paths of golden files are resolved.
     pub root: Option<&'x str>,
-    /// The row of each job of the list; `None` for a job that was not run.
+    /// The row of each job of the list; `None` for a job that did not run.
     pub rows: &'x [Option<Row>],
 }
 
 impl<'x, D: Inputs> CurrentFiles<'x, D> {
-    /// Returns for each job of the list whether it is chosen, and the verdict on it.
+    /// Returns for each job of the list whether it is chosen, and the current verdict on it.
     pub(crate) fn candidates(
         &self,
         jobs: &[Job],
@@ -50,7 +50,7 @@ impl<'x, D: Inputs> CurrentFiles<'x, D> {
         Ok(candidates)
     }
 
-    // Returns whether the job at index `index` is chosen, and the verdict on it; a job that was not run fails.
+    // Returns whether the job at index `index` is chosen, and the current verdict on it; a job that did not run fails.
     fn candidate_at(
         &self,
         index: usize,
@@ -73,7 +73,7 @@ impl<'x, D: Inputs> CurrentFiles<'x, D> {
         }
     }
 
-    // Returns the verdict on a job with this row, given its golden files as they are now.
+    // Returns the verdict on a job with this row, compared with its golden files as they are now.
     fn current_verdict(&self, job: &Job, row: &Row) -> Result<CurrentVerdict, AllocError>
         ensures { IfOk result (IsCurrentVerdict (D.contents self.now.inputs.now) (optional_text self.now.root)
             self.now.rows.now job.now row.now) }
@@ -105,7 +105,7 @@ impl<'x, D: Inputs> CurrentFiles<'x, D> {
         Ok(verdict_by(did_run(row.ending), unmet.as_slice()))
     }
 
-    // Returns the row of the job that `same_as` names; `None` if no job is named, or the named job did not run.
+    // Returns the row of the job that `same_as` names; `None` if it names none, or that job did not run.
     fn compared_row(&self, job: &Job) -> Option<&Row>
         ensures { option_map (λ row. row.now) result ≡ compared_row self.now.rows.now job.now.same_as }
     {
@@ -122,7 +122,8 @@ impl<'x, D: Inputs> CurrentFiles<'x, D> {
         row_if_run(self.rows.get(index))
     }
 
-    // Returns the contents of the golden file at a path; `None` if no path is given, or the file cannot be read or is too long.
+    // Returns the contents of the golden file at a path; `None` if no path is given, or if the file cannot be read or is larger than 16
+    // MiB.
     fn golden_text(&self, path: Option<&str>) -> Result<Option<Vec<u8>>, AllocError>
         ensures { IfOk result (λ text. IsGoldenText (D.contents self.now.inputs.now) (optional_text self.now.root)
             (option_map (λ path. path.now) path.entry) (option_map (λ bytes. bytes.items) text)) }
@@ -133,8 +134,8 @@ impl<'x, D: Inputs> CurrentFiles<'x, D> {
         }
     }
 
-    // Returns the contents of the golden file at a path, resolved against the `--root` directory; `None` if it cannot be read or is too
-    // long.
+    // Returns the contents of the golden file at a path, resolved against the `--root` directory; `None` if it cannot be read or is larger
+    // than 16 MiB.
     fn text_at_path(&self, path: &str) -> Result<Option<Vec<u8>>, AllocError>
         ensures { IfOk result (λ text. AreContentsUpToLimit (D.contents self.now.inputs.now)
             (resolved_path (optional_text self.now.root) path.now) (option_map (λ bytes. bytes.items) text)) }
@@ -143,7 +144,7 @@ impl<'x, D: Inputs> CurrentFiles<'x, D> {
         self.text_at(resolved.as_str())
     }
 
-    // Reads the file at a path. Returns `None` if it cannot be read or is too long.
+    // Reads the file at a path. Returns `None` if it cannot be read or is larger than 16 MiB.
     fn text_at(&self, path: &str) -> Result<Option<Vec<u8>>, AllocError>
         ensures { IfOk result (λ text. AreContentsUpToLimit (D.contents self.now.inputs.now) path.now
             (option_map (λ bytes. bytes.items) text)) }
@@ -175,8 +176,8 @@ fn is_selected(selection: &[bool], index: usize) -> bool
     }
 }
 
-// Returns the path of a golden file, if its contents matter for the verdict; `None` if the job ended as expected, since it is accepted
-// then.
+// Returns the path of a golden file if its contents matter for the verdict; `None` if the job ended as expected, since it is then accepted
+// whatever they are.
 fn path_to_read<'a>(job: &Job, row: &Row, path: Option<&'a str>) -> Option<&'a str>
     ensures { option_map (λ path. path.now) result
         ≡ path_to_read job.now row.now (option_map (λ path. path.now) path.entry) }
@@ -198,7 +199,7 @@ fn signature_path(job: &Job) -> Option<&str>
     }
 }
 
-// Returns the bytes of a text as a slice; `None` if there is no text.
+// Returns the bytes as a slice; `None` if there are none.
 fn slice_of_text(bytes: &Option<Vec<u8>>) -> Option<&[u8]>
     ensures { option_map (λ bytes. bytes.now) result ≡ option_map (λ bytes. bytes.items) bytes.now }
 {
@@ -208,7 +209,7 @@ fn slice_of_text(bytes: &Option<Vec<u8>>) -> Option<&[u8]>
     }
 }
 
-// Returns the row in an entry of the list of rows; `None` if there is no such entry, or it has no row.
+// Returns the row in an entry of the list of rows; `None` if the index was out of range or the job did not run.
 fn row_if_run(row: Option<&Option<Row>>) -> Option<&Row>
     ensures { option_map (λ row. row.now) result ≡ row_or_none (option_map (λ row. row.now) row.entry) }
 {
@@ -218,7 +219,7 @@ fn row_if_run(row: Option<&Option<Row>>) -> Option<&Row>
     }
 }
 
-// Returns the verdict on a job: it passes if it ran and met all expectations; otherwise it differs if `same_as` is unmet, and fails if not.
+// Returns the verdict on a job: `Passes` if it ran and all expectations are met, else `Differs` if `same_as` is unmet, else `Fails`.
 fn verdict_by(ran: bool, unmet: &[UnmetExpectation]) -> CurrentVerdict
     ensures { result ≡ verdict_by ran unmet.now }
 {
@@ -231,7 +232,7 @@ fn verdict_by(ran: bool, unmet: &[UnmetExpectation]) -> CurrentVerdict
     }
 }
 
-// Whether the list of unmet expectations is empty.
+// Whether all expectations are met.
 fn are_all_met(unmet: &[UnmetExpectation]) -> bool
     ensures { result ≡ are_all_met unmet.now }
 {

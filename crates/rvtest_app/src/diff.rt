@@ -23,15 +23,15 @@ use rv_rows::{Extent, PartialReport, Row, SavedReport};
 use rvtest_cli::DiffArgs;
 use std::alloc::{AllocError, Global};
 
-// The differences of two reports with the exit status, and the notes about truncated reports.
+// The differences between two reports with the exit status, and the notes about truncated reports.
 #[derive(Drop)]
 struct NotedDiff {
     output: CommandResult,
     notes: Vec<u8>,
 }
 
-/// Writes the notes about truncated reports, and then the differences between two reports. The status is 1 if a job differs, and otherwise
-/// 0.
+/// Writes the notes about truncated reports to standard error, and the differences between two reports to standard output. The status is 1
+/// if a job differs, and otherwise 0.
 pub(crate) fn diff_reports<D: Inputs, F: Outputs + Drop, O: Sink + Drop, E: Sink + Drop>(
     inputs: &D,
     alloc: Global,
@@ -66,8 +66,8 @@ fn diff_of_files<D: Inputs>(
     diff_report_texts(alloc, args, old.as_slice(), new)
 }
 
-// Returns the differences between two reports, given their texts. An error in the old report takes precedence over a failure to read the
-// new one.
+// Returns the differences between two reports, given the text of the old one and the result of reading the new one. If both have an error,
+// that of the old report is returned.
 fn diff_report_texts(
     alloc: Global,
     args: DiffArgs<'_>,
@@ -85,7 +85,7 @@ fn diff_report_texts(
     diff_read_reports(alloc, args, old, new)
 }
 
-// Returns the request to read the report at `path`, which may be truncated if `--partial` is given.
+// Returns a request for the report at `path`. With `--partial`, the report can be truncated.
 fn requested_report<'a>(path: &'a str, args: DiffArgs<'_>) -> RequestedReport<'a>
     ensures path { result.path.now ≡ path.entry.now }
     ensures partial { result.partial ≡ args.entry.partial }
@@ -96,7 +96,7 @@ fn requested_report<'a>(path: &'a str, args: DiffArgs<'_>) -> RequestedReport<'a
     }
 }
 
-// Returns the differences between two reports, with a note about each truncated one.
+// Returns the differences between two reports, with a note for each truncated one.
 fn diff_read_reports(
     alloc: Global,
     args: DiffArgs<'_>,
@@ -145,8 +145,8 @@ fn diff_saved_reports(
     diff_rows(alloc, compare, compared)
 }
 
-// Returns the rows of both reports to compare: all rows or, if one report is whole and the other has only chosen jobs, only the rows of
-// these jobs.
+// Returns the rows of both reports to compare: if one report is of a whole list and the other only of chosen jobs, the rows of the jobs
+// that both have; otherwise all rows.
 fn compared_rows(
     alloc: Global,
     old: SavedReport,
@@ -171,7 +171,7 @@ fn compared_rows(
     Ok((old, new))
 }
 
-// Whether `part` has only chosen jobs of a list, and `other` is a whole report.
+// Whether `part` is a report of chosen jobs only, and `other` of a whole list.
 fn is_partial_of_whole(part: &Extent, other: &Extent) -> bool
     ensures { result ≡ is_partial_of_whole part.now other.now }
 {
@@ -181,7 +181,7 @@ fn is_partial_of_whole(part: &Extent, other: &Extent) -> bool
     }
 }
 
-// Returns what to compare: steps with `--steps`, else slower jobs with `--slower`, else outcomes.
+// Returns what to compare: with `--steps` the numbers of steps, else with `--slower` only jobs that got slower, else the outcomes.
 fn requested_comparison(steps: bool, slower: Option<u32>) -> CompareMode
     ensures { result ≡ requested_comparison steps slower }
 {

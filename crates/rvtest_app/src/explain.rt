@@ -23,7 +23,8 @@ use rv_rows::{JobList, Plan, gather_jobs, row_at};
 use rvtest_cli::ExplainArgs;
 use std::alloc::Global;
 
-/// Runs the job with the requested name, and explains how it ends and how it got there. The status is 0 if the job passed, and otherwise 1.
+/// Runs the job with the requested name, and explains how it ended and how it got there. The status is 0 if the job passed, and otherwise
+/// 1.
 pub(crate) fn explain_named_job<D: Inputs>(
     inputs: &D,
     alloc: Global,
@@ -54,7 +55,7 @@ fn explain_job_of_text<D: Inputs>(
     explain_job_at(inputs, alloc, args, jobs, index)
 }
 
-// Runs the job at index `index` of the list, and returns its explanation. A requested budget applies to every job.
+// Runs the job at index `index` of the list, and returns its explanation and the exit status. A requested budget replaces that of the job.
 fn explain_job_at<D: Inputs>(
     inputs: &D,
     alloc: Global,
@@ -76,7 +77,7 @@ fn explain_job_at<D: Inputs>(
     explain_planned_job(alloc, &plan, store.unreadable_paths(), index, args.last)
 }
 
-// Runs the job at index `index` of a plan, and returns its explanation, with its last `last` instructions.
+// Runs the job at index `index` of a plan, and returns its explanation, which shows the last `last` instructions, and the exit status.
 fn explain_planned_job(
     alloc: Global,
     plan: &Plan,

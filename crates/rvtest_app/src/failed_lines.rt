@@ -1,4 +1,4 @@
-//! The lines of failed rows, as far as a report knows them.
+//! The result lines of failed rows, with what a report contains of them.
 
 ghost use Rattle.std.specs.Prelude.{◌≡◌, ◌++◌, OnOk};
 ghost use Rattle.rv_expect.specs.Judgement.{judge_view};
@@ -9,7 +9,8 @@ use rv_job_text::{EndDetail, push_result_line};
 use rv_rows::{Row, RowReporter};
 use std::alloc::{AllocError, Global};
 
-/// Reports a line for each row that is a failure, without symbols or reasons, and nothing for other rows.
+/// Reports the result line of each row that is a failure, without symbols and reasons, which a report does not contain, and nothing for
+/// other rows.
 #[derive(Clone, Copy)]
 pub struct FailedLines<'a> {
     pub judge: Judge<'a>,

@@ -1,4 +1,4 @@
-//! What goes to files.
+//! What is written to files.
 
 ghost use Rattle.std.specs.Prelude.{◌≤◌, length};
 ghost use Rattle.rvtest_app.specs.ReportTexts.{report_rows};
@@ -13,7 +13,7 @@ pub(crate) struct FileTexts<'s, 't, 'p, T> {
     pub(crate) reporter: &'t T,
     pub(crate) indices: &'p [usize],
     pub(crate) report: ReportText<'p>,
-    /// The lines that are known already, by the numbers of their rows.
+    /// The lines about each row that were already made, by the index of the row.
     pub(crate) texts: &'p [Option<Vec<u8>>],
     ghost index_per_row: { length (report_rows report) ≤ length indices.now },
 }

@@ -33,7 +33,7 @@ use std::alloc::{AllocError, Global};
 use std::io::Read;
 use std::thread::Threads;
 
-/// A debugging session of a job's run, and the job.
+/// // A debugging session of a job's run, and the planned job.
 #[derive(Drop)]
 struct JobSession {
     session: Session,
@@ -42,8 +42,8 @@ struct JobSession {
 }
 
 /// Debugs the run of the job with the requested name. Reads gdb's packets from `input` and writes the replies to standard output, until gdb
-/// ends the session or its input ends. Only Ctrl-C or the end of the input interrupts a move. The status is 0. It is an error if standard
-/// output is a terminal.
+/// ends the session or its input ends. A command of gdb that runs the job is interrupted only by Ctrl-C or the end of the input. The status
+/// is 0. It is an error if standard output is a terminal.
 pub(crate) fn show_job_to_gdb<
     R: Threads,
     D: Inputs,
@@ -93,7 +93,7 @@ fn limit_memory(alloc: Global, session: &mut Session, megabytes: Option<u32>)
     }
 }
 
-// Returns the error that standard output is a terminal, which shows how gdb starts the command.
+// Returns the error for a terminal as standard output, which shows how gdb starts the command.
 fn no_gdb_stop(alloc: Global) -> Stop
     ensures { IsNoGdbStop result }
 {
@@ -115,7 +115,7 @@ fn session_error_stop(alloc: Global, error: SessionError) -> Stop
     }
 }
 
-// Opens the session of the job with the requested name, before gdb sends anything.
+// Opens a session for the job with the requested name.
 fn session_of_named_job<D: Inputs>(
     inputs: &D,
     alloc: Global,
@@ -129,7 +129,7 @@ fn session_of_named_job<D: Inputs>(
     session_of_text(inputs, alloc, args, text.as_slice())
 }
 
-// Opens the session of the job with the requested name of the list with this text.
+// Opens a session for the job with the requested name of the list with this text.
 fn session_of_text<D: Inputs>(
     inputs: &D,
     alloc: Global,
@@ -145,7 +145,7 @@ fn session_of_text<D: Inputs>(
     session_of_job(inputs, alloc, args, named)
 }
 
-// Opens the session of the job that was found in the list.
+// Opens a session for the job that was found in the list. Returns an error if the job is refused.
 fn session_of_job<D: Inputs>(
     inputs: &D,
     alloc: Global,
@@ -177,7 +177,7 @@ fn session_of_job<D: Inputs>(
     }
 }
 
-// Opens the session of the job at index `index` of a plan, with its image's path resolved against `root`. Returns `None` if the job is
+// Opens a session for the job at index `index` of a plan, with its image's path resolved against `root`. Returns `None` if the job is
 // refused.
 fn session_of_plan(
     alloc: Global,
@@ -203,7 +203,7 @@ fn image_path(alloc: Global, root: Option<&str>, image: &str) -> Result<Bytes, A
     Ok(Bytes::new(Vec::from_slice(alloc, path.as_str().as_bytes())?))
 }
 
-// Returns the error that the job at index `index` is refused; its message is the job's result line.
+// Returns the error for the refused job at index `index`; its message is the result line of the job.
 fn refused_job_stop(alloc: Global, plan: &Plan, unread: &[UnreadablePath], index: usize) -> Stop
     requires { index < length plan.now.jobs }
     ensures { (d : AJob) → IsStop 2 (row_line plan.now unread.now (judge_by_rule Strict)

@@ -24,14 +24,14 @@ pub(crate) fn topic_help(alloc: Global, args: HelpArgs<'_>) -> Result<CommandRes
     Ok(CommandResult { text, status: DONE })
 }
 
-// Returns the error that the topic is unknown.
+// Returns the error for an unknown topic.
 fn no_topic_stop(alloc: Global, topic: &str) -> Stop
     ensures { IsStop 2 (no_topic_message topic.now) result }
 {
     Stop::rejection(no_topic_message(alloc, topic))
 }
 
-// Returns the message about an unknown topic.
+// Returns the message for an unknown topic.
 fn no_topic_message(alloc: Global, topic: &str) -> Result<Vec<u8>, AllocError>
     ensures { IfOk result (λ message. message.items ≡ no_topic_message topic.now) }
 {

@@ -1,4 +1,4 @@
-//! Merging the rows of a run into the whole report of their list.
+//! Merging the rows of a run into a report of the whole list.
 
 ghost use Rattle.std.specs.Prelude.{◌≡◌, ◌<◌, length, vec_len};
 ghost use Rattle.std.specs.List.{All};
@@ -10,12 +10,12 @@ use crate::outlets::is_stdout_at;
 use rv_rows::{Row, Rows, Shard};
 use rvtest_cli::RunArgs;
 
-/// What the report of a run has in addition to the run's rows.
+/// What a run's report has apart from the run's rows.
 #[derive(Drop)]
 pub(crate) struct ReportContext {
-    /// The shard whose jobs the run executes.
+    /// The shard whose jobs run; `None` if the list is not divided.
     pub(crate) shard: Option<Shard>,
-    /// The rows of the report that the run updates: one for each job of the list.
+    /// The rows of the report that the run updates, one for each job of the list; `None` without `--into`.
     pub(crate) old: Option<Rows>,
 }
 
@@ -28,7 +28,7 @@ pub(crate) struct IntoRows<'a> {
 }
 
 impl<'a> IntoRows<'a> {
-    /// Returns the old rows, in which the new rows replace the rows of the chosen jobs. Allocates no memory.
+    /// Returns the old rows, with those of the chosen jobs replaced by the new rows. Allocates no memory.
     pub(crate) fn into_whole_rows(self) -> Rows
         ensures { result ≡ merged_rows self.entry.chosen.indices.now self.entry.chosen.rows self.entry.old }
     {
@@ -40,7 +40,7 @@ impl<'a> IntoRows<'a> {
     }
 }
 
-// Replaces, in order, the rows of `all_rows` at these indices by `rows`.
+// Replaces the rows of `all_rows` at these indices by `rows`: the first index by the first row, and so on.
 fn replace_rows_at(all_rows: &mut Vec<Row>, indices: &[usize], rows: Vec<Row>)
     requires within { All (λ index. index < vec_len all_rows.old) indices.now }
     requires same_length { length indices.now ≡ vec_len rows }

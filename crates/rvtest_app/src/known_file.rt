@@ -1,4 +1,4 @@
-//! The file that names the known failures.
+//! The file of known failures.
 
 ghost use Rattle.std.specs.Prelude.{◌≡◌, ◌++◌, IfErr, IfOk, OnOk};
 ghost use Rattle.rv_command.specs.Texts.{optional_text};
@@ -15,7 +15,7 @@ use rv_rows::Job;
 use rvtest_cli::RunArgs;
 use std::alloc::{AllocError, Global};
 
-/// Reads the file of `--known`, and returns which jobs of the list are known to fail; `None` without this option.
+/// Reads the file of known failures that `--known` names, and returns which jobs of the list are known to fail; `None` without this option.
 pub(crate) fn requested_known_jobs<D: Inputs>(
     inputs: &D,
     alloc: Global,
@@ -31,7 +31,8 @@ pub(crate) fn requested_known_jobs<D: Inputs>(
     }
 }
 
-// Reads the file of known failures at `path`, and returns which of the jobs it lists; `list_path` is the path of the job list.
+// Reads the file of known failures at `path`, and returns which of the jobs it names; `list_path` is the path of the job list, for
+// messages.
 fn read_known_file<D: Inputs>(
     inputs: &D,
     alloc: Global,

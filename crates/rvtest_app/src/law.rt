@@ -1,4 +1,4 @@
-//! Laws; there is nothing to run.
+//! Laws of reports and of `accept`. They are proved and have no code.
 
 ghost use Rattle.std.specs.Prelude.{◌≡◌, [], List};
 ghost use Rattle.rv_accept_text.specs.AcceptLines.{changed_count};
@@ -7,12 +7,13 @@ ghost use Rattle.rv_rows.specs.declared_row.Row.{Row};
 ghost use Rattle.rvtest_app.specs.Accepts.{written_files};
 ghost use Rattle.rvtest_app.specs.ReportSummary.{AreSortedBySteps, rows_by_steps};
 
-/// The rows of a report are sorted by descending steps, each row once, and rows with equal steps keep their order.
+/// Proves that `rows_by_steps` sorts the rows of a report by descending steps: each row occurs once, and rows with equal steps keep their
+/// order.
 pub fn rows_by_steps_are_sorted()
     ensures { (rows : List Row) → AreSortedBySteps rows (rows_by_steps rows) }
 {}
 
-/// If `accept` reports no change, it writes no file.
+/// Proves that if `accept` reports no change, it writes no file.
 pub fn nothing_is_written_if_nothing_changes()
     ensures { (summary : AcceptSummary) → changed_count summary ≡ 0 → written_files summary ≡ [] }
 {}

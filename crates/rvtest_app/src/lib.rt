@@ -78,5 +78,5 @@ pub use law::{nothing_is_written_if_nothing_changes, rows_by_steps_are_sorted};
 pub use program::{reject_unreadable_args, run_rvtest};
 pub use terminals::Terminals;
 
-// From the crates below: what this interface names, and what its callers need with it.
+// Re-exports from lower crates: the types in this interface, and what its callers need with them.
 pub use rv_files::{PipeSink, StreamSink, SystemInputs, SystemOutputs};

@@ -25,7 +25,8 @@ struct ListedJobs {
     notes: Vec<u8>,
 }
 
-/// Writes the notes about the choice, and then the names of the jobs that a run with these arguments would run. The status is 0.
+/// Writes the notes about the choice to standard error, and the names of the jobs that a run with these arguments would run to standard
+/// output. The status is 0.
 pub(crate) fn list_chosen_jobs<D: Inputs, F: Outputs + Drop, O: Sink + Drop, E: Sink + Drop>(
     inputs: &D,
     alloc: Global,

@@ -36,7 +36,7 @@ use rv_rows::Rows;
 use rvtest_cli::MergeArgs;
 use std::alloc::{AllocError, Global};
 
-// The rows of a whole list, with the summary line and the exit status.
+// The rows of a whole list, with the line of totals and the exit status.
 #[derive(Drop)]
 struct Merged {
     rows: Rows,
@@ -44,7 +44,7 @@ struct Merged {
     status: u8,
 }
 
-/// Merges the parts of one run into the report of the whole list. The status is 1 if a job of the run failed.
+/// Merges the reports of all shards of a run into a report of the whole list. The status is 1 if a job of the run failed, and otherwise 0.
 pub(crate) fn merge_reports<D: Inputs, F: Outputs + Drop, O: Sink + Drop, E: Sink + Drop>(
     inputs: &D,
     alloc: Global,
@@ -57,7 +57,7 @@ pub(crate) fn merge_reports<D: Inputs, F: Outputs + Drop, O: Sink + Drop, E: Sin
     ensures committed_after_error { OnErr result (IsAbortedMergeAt (D.contents inputs.now) args.now
         (F.committed destinations.old.files) (F.committed destinations.new.files)) }
     ensures stopped { IfErr result (IsMergeStop (D.contents inputs.now) args.now) }
-    // The shards are not overwritten.
+    // No input report is overwritten.
     ensures inputs_preserved { HoldsIfCommitted (AreMergeFilesNotInputs args.now) (F.committed destinations.old.files) (F.committed destinations.new.files) }
 {
     reject_merge_overwrites(&destinations.files, alloc, args)?;
@@ -68,7 +68,7 @@ pub(crate) fn merge_reports<D: Inputs, F: Outputs + Drop, O: Sink + Drop, E: Sin
     Ok(status)
 }
 
-// Returns an error if an output file would overwrite a part.
+// Returns an error if writing an output file would overwrite the report of a shard.
 fn reject_merge_overwrites<F: Outputs>(
     files: &F,
     alloc: Global,
@@ -86,7 +86,7 @@ fn reject_merge_overwrites<F: Outputs>(
     reject_option_overwrite(files, alloc, "--junit", args.junit, &inputs)
 }
 
-// Returns the path of the merged report: by default standard output, unless the JUnit XML goes there.
+// Returns the path for the merged report: the requested one, or else standard output, unless the JUnit XML is requested instead.
 fn merged_report_path<'a>(args: &MergeArgs<'a>) -> Option<&'a str>
     ensures { optional_text result ≡ merged_report_path (optional_text args.now.report)
         (optional_text args.now.junit) }
@@ -98,7 +98,7 @@ fn merged_report_path<'a>(args: &MergeArgs<'a>) -> Option<&'a str>
     }
 }
 
-// Returns the merged rows of the parts with these texts, with the summary line and the exit status.
+// Merges the reports of the shards with these texts, and returns the rows of the list, the line of totals, and the exit status.
 fn merge_part_texts(alloc: Global, args: &MergeArgs<'_>, texts: &[Vec<u8>]) -> Result<Merged, Stop>
     ensures parts { IfOk result
         (λ merged. AreParts merged.rows (map (λ text. text.items) texts.now)) }
@@ -117,7 +117,7 @@ fn merge_part_texts(alloc: Global, args: &MergeArgs<'_>, texts: &[Vec<u8>]) -> R
     Ok(Merged { rows, line, status })
 }
 
-// Returns the merged rows of the parts with these texts, in list order.
+// Merges the reports of the shards with these texts, and returns the rows in list order.
 fn rows_of_part_texts(alloc: Global, args: &MergeArgs<'_>, texts: &[Vec<u8>]) -> Result<Rows, Stop>
     ensures parts { IfOk result (λ rows. AreParts rows (map (λ text. text.items) texts.now)) }
     ensures at_most_max { IfOk result (λ rows. length rows ≤ max_jobs) }
@@ -130,7 +130,7 @@ fn rows_of_part_texts(alloc: Global, args: &MergeArgs<'_>, texts: &[Vec<u8>]) ->
     }
 }
 
-// Returns the texts of the parts at the paths in the arguments.
+// Reads the reports of the shards at the paths in the arguments, and returns their texts.
 fn read_part_texts<D: Inputs>(
     inputs: &D,
     alloc: Global,
@@ -148,7 +148,7 @@ fn read_part_texts<D: Inputs>(
     Ok(texts)
 }
 
-// Appends the text of a part.
+// Appends the text of a shard's report.
 fn push_part_text(texts: &mut Vec<Vec<u8>>, text: Vec<u8>) -> Result<(), AllocError>
     ensures { OnOk result (texts.new.items ≡ texts.old.items ++ text ∷ []) }
 {
@@ -168,7 +168,7 @@ fn text_slices(alloc: Global, texts: &[Vec<u8>]) -> Result<Vec<&[u8]>, AllocErro
     Ok(slices)
 }
 
-// Writes the summary line, the merged report and the JUnit XML to the requested paths.
+// Writes the line of totals, the merged report and the JUnit XML to their destinations.
 fn write_merged<F: Outputs + Drop, O: Sink + Drop, E: Sink + Drop>(
     alloc: Global,
     args: &MergeArgs<'_>,
@@ -204,7 +204,8 @@ fn write_merged<F: Outputs + Drop, O: Sink + Drop, E: Sink + Drop>(
     }
 }
 
-// Returns the name of the JUnit suite: the requested name, or else the name derived from the report's path, or `merged` without a report.
+// Returns the name of the JUnit suite: the requested name, or else a name derived from the path of the report, or `merged` without
+// `--report`.
 fn merged_suite<'a>(args: &MergeArgs<'a>) -> &'a str
     ensures { result.now ≡ merged_suite (optional_text args.now.suite) (optional_text args.now.report) }
 {
@@ -214,7 +215,7 @@ fn merged_suite<'a>(args: &MergeArgs<'a>) -> &'a str
     }
 }
 
-// Returns the stop that reports an error of `merge`; `texts` are the texts of the parts.
+// Returns the stop for an error of `merge`; `texts` are the texts of the shards' reports.
 fn merge_error_stop(alloc: Global, args: &MergeArgs<'_>, texts: &[&[u8]], error: MergeError) -> Stop
     ensures { IsMergeErrorStop args.now.parts.items (bytes_of_texts texts.now) error result }
 {
@@ -237,7 +238,7 @@ fn merge_error_stop(alloc: Global, args: &MergeArgs<'_>, texts: &[&[u8]], error:
     }
 }
 
-// Returns the message that no part has the report of the shard with this number.
+// Returns the message that no report is of the shard with this number.
 fn missing_shard_message(alloc: Global, number: usize) -> Result<Vec<u8>, AllocError>
     ensures { IfOk result (λ text. text.items
         ≡ codes "rvtest: no part for shard " ++ decimal number ++ codes "\n") }
@@ -252,7 +253,7 @@ fn missing_shard_message(alloc: Global, number: usize) -> Result<Vec<u8>, AllocE
     )
 }
 
-// Returns the path of the part at index `index`; "a part" if there is no such index.
+// Returns the path of the report at index `index` in the arguments; "a part" if the index is out of range.
 fn part_path<'a>(args: &MergeArgs<'a>, index: usize) -> &'a str
     ensures { result.now ≡ part_path args.now.parts.items index }
 {
@@ -262,7 +263,7 @@ fn part_path<'a>(args: &MergeArgs<'a>, index: usize) -> &'a str
     }
 }
 
-// Returns the text of the part at index `index`; empty if there is no such index.
+// Returns the text of the report at index `index`; an empty text if the index is out of range.
 fn part_text<'a>(texts: &[&'a [u8]], index: usize) -> &'a [u8]
     ensures { result.now ≡ nth_text (bytes_of_texts texts.now) index }
 {
@@ -273,14 +274,14 @@ fn part_text<'a>(texts: &[&'a [u8]], index: usize) -> &'a [u8]
     }
 }
 
-// The path and text of a part.
+// The path and text of a shard's report.
 #[derive(Clone, Copy)]
 struct Part<'a> {
     path: &'a str,
     text: &'a [u8],
 }
 
-// Returns the message that a part has this flaw.
+// Returns the message about a flaw of a shard's report.
 fn part_flaw_message(
     alloc: Global,
     args: &MergeArgs<'_>,
@@ -336,7 +337,7 @@ fn part_flaw_message(
     }
 }
 
-// Returns the message that the part at `path` belongs to another run than the first part; `difference` says how they differ.
+// Returns the message that the report at `path` belongs to another run than the first report; `difference` says how they differ.
 fn other_run_message(
     alloc: Global,
     args: &MergeArgs<'_>,
@@ -348,8 +349,7 @@ fn other_run_message(
     two_parts_message(alloc, path, difference, part_path(args, 0), "\"\n")
 }
 
-// Returns a message about two parts: `path`, the rejected part; `flaw_text`, its flaw; `other_path`, the other part; and `end`, the end of
-// the message.
+// Returns a message about two reports: the path of the rejected one, `flaw_text`, the path of the other one, and `end`.
 fn two_parts_message<'a>(
     alloc: Global,
     path: &'a str,

@@ -1,4 +1,4 @@
-//! What is reported if the image of every job is missing: the directory that paths are resolved against.
+//! What is reported if the images of all jobs are missing: the directory against which paths are resolved.
 
 ghost use Rattle.std.specs.Prelude.{◌≡◌, ◌++◌, IfOk, OnOk, option_map};
 ghost use Rattle.rv_command.specs.Texts.{optional_text};
@@ -13,8 +13,8 @@ use rv_rows::{Job, Plan};
 use std::alloc::{AllocError, Global};
 use std::io::ErrorKind;
 
-/// Returns the note of `run` that no image was found, if all jobs run (`count` of them) and every image is missing; otherwise an empty
-/// text.
+/// Returns the note of `run` that no image was found, if all jobs are run (`count` is their number) and the images of all are missing;
+/// otherwise an empty text.
 pub(crate) fn missing_images_note(
     alloc: Global,
     plan: &Plan,
@@ -33,7 +33,7 @@ pub(crate) fn missing_images_note(
     Ok(note)
 }
 
-/// Appends the line of `check` that no image was found, if every image is missing; otherwise nothing.
+/// Appends the line of `check` that no image was found if the images of all jobs are missing, and otherwise nothing.
 pub(crate) fn push_missing_images_line(
     text: &mut Vec<u8>,
     plan: &Plan,
@@ -69,7 +69,7 @@ fn push_paths_line(text: &mut Vec<u8>, root: Option<&str>) -> Result<(), AllocEr
     }
 }
 
-// Whether every job's image has a relative path at which there is no file.
+// Whether the image of every job has a relative path at which there is no file.
 fn are_images_missing(plan: &Plan, unread: &[UnreadablePath]) -> bool
     ensures { result ≡ are_images_missing plan.now.jobs unread.now }
 {
@@ -89,14 +89,14 @@ fn is_image_missing(job: &Job, unread: &[UnreadablePath]) -> bool
     !path.as_bytes().starts_with(b"/") && is_reported_missing(unread_path(unread, path))
 }
 
-// Returns the first entry for this path in the list of paths that could not be read.
+// Returns the first entry for this path among the paths that could not be read; `None` if there is none.
 fn unread_path<'a>(unread: &'a [UnreadablePath], path: &str) -> Option<&'a UnreadablePath>
     ensures { option_map (λ one. one.now) result ≡ unread_note unread.now path.now }
 {
     unread.iter().find(|one| path == one.path.as_str())
 }
 
-// Whether `entry` is present, and says that the path could not be read because there is no such file.
+// Whether there is an entry and it says that no file exists at the path.
 fn is_reported_missing(entry: Option<&UnreadablePath>) -> bool
     ensures { result ≡ is_reported_missing (option_map (λ unreadable. unreadable.now) entry.entry) }
 {
@@ -106,7 +106,7 @@ fn is_reported_missing(entry: Option<&UnreadablePath>) -> bool
     }
 }
 
-// Whether the reason of a read error is that there is no file at the path.
+// Whether a file could not be read because it does not exist.
 fn is_not_found(reason: ErrorKind) -> bool
     ensures { result ≡ is_not_found reason }
 {

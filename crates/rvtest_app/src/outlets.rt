@@ -1,4 +1,4 @@
-//! Where the texts of rows go: a report, and JUnit XML.
+//! Where a report and JUnit XML are written.
 
 ghost use Rattle.std.specs.Prelude.{◌≡◌, [], Some, false, IfErr, IfOk, IsErr, IsOk, IsSomeAnd, MatchResult, OnErr, OnOk, is_some};
 ghost use Rattle.std.specs.Io.KnownBytes.{Appends};
@@ -23,7 +23,7 @@ use rv_rows::{RowReporter, WriteError};
 use std::alloc::Global;
 use std::io::ErrorKind;
 
-/// A file that is being written, with the path by which messages name it.
+/// A file that is being written. Messages refer to it by `path`.
 #[derive(Drop)]
 pub(crate) struct OpenFile<'a, P: Drop, W: Drop> {
     pub(crate) path: &'a str,
@@ -31,7 +31,7 @@ pub(crate) struct OpenFile<'a, P: Drop, W: Drop> {
     pub(crate) sink: W,
 }
 
-/// Where a text is written to: nowhere, standard output, or a file.
+/// Where a text is written: nowhere, to standard output, or to a file.
 #[derive(Drop)]
 pub(crate) enum Outlet<'a, P: Drop, W: Drop> {
     Nowhere,
@@ -47,7 +47,7 @@ pub(crate) struct Outlets<'a, P: Drop, W: Drop> {
     pub(crate) junit: Outlet<'a, P, W>,
 }
 
-/// Opens the outlets of the report and the JUnit XML. After an error, neither is left open.
+/// Opens the outlets for the report and the JUnit XML at these paths. After an error, neither is open.
 pub(crate) fn open_outlets<'a, F: Outputs>(
     files: &mut F,
     alloc: Global,
@@ -74,7 +74,7 @@ pub(crate) fn open_outlets<'a, F: Outputs>(
     }
 }
 
-/// Opens the outlet for a path: a new file, standard output if the path is `-`, or nothing without a path.
+/// Opens the outlet for a path: a new file, standard output if the path is `-`, or none without a path.
 pub(crate) fn open_outlet<'a, F: Outputs>(
     files: &mut F,
     alloc: Global,
@@ -93,14 +93,14 @@ pub(crate) fn open_outlet<'a, F: Outputs>(
     }
 }
 
-/// Whether the path is `-`, which is standard output.
+/// Whether the path is `-`, which means standard output.
 pub(crate) fn is_stdout(path: &str) -> bool
     ensures { result ≡ is_stdout path.now }
 {
     path == "-"
 }
 
-/// Whether a path is given and is `-`, which is standard output.
+/// Whether a path is given and is `-`, which means standard output.
 pub(crate) fn is_stdout_at(path: Option<&str>) -> bool
     ensures { result ≡ is_stdout_at (optional_text path.entry) }
 {
@@ -133,7 +133,7 @@ fn open_file<'a, F: Outputs>(
 }
 
 impl<'a, P: Drop, W: Drop> Outlet<'a, P, W> {
-    /// Separates the outlet from its sink. The sink is `None` if the outlet is not a file.
+    /// Returns the outlet without its sink, and the sink, which is `None` if the outlet is not a file.
     pub(crate) fn split_sink(self) -> (Outlet<'a, P, ()>, Option<W>)
         ensures parts { AreOutletParts result.0 result.1 self.entry }
         ensures sink_if_file { is_some result.1 ≡ is_file result.0 }
@@ -160,7 +160,7 @@ impl<'a, P: Drop, W: Drop> Outlet<'a, P, W> {
 }
 
 impl<'a, P: Drop> Outlet<'a, P, ()> {
-    /// Returns the outlet with this sink, which is given exactly if the outlet is a file.
+    /// Returns the outlet with this sink. A sink is given exactly if the outlet is a file.
     pub(crate) fn with_sink<W: Drop>(self, sink: Option<W>) -> Outlet<'a, P, W>
         requires { is_some sink ≡ is_file self }
         ensures { AreOutletParts self.entry sink result }
@@ -206,7 +206,7 @@ impl<'a, P: Drop, W: Sink + LastError + Drop> Outlet<'a, P, W> {
         matches!(self, Outlet::Stdout)
     }
 
-    /// Returns the reason of the last failed write to the file; an arbitrary reason if the outlet is not a file.
+    /// Returns the reason of the last failed write to the file; without meaning if the outlet is not a file.
     pub(crate) fn last_error(&self) -> ErrorKind {
         match self {
             Outlet::File(file) => file.sink.last_error(),
@@ -214,7 +214,7 @@ impl<'a, P: Drop, W: Sink + LastError + Drop> Outlet<'a, P, W> {
         }
     }
 
-    /// Writes a report to the outlet. A file that has already received the rows gets only the rest.
+    /// Writes a report to the outlet. A file that received the rows while the jobs ran gets only the rest of the report.
     pub(crate) fn put_report<O: Sink>(
         &mut self,
         alloc: Global,
@@ -241,7 +241,7 @@ impl<'a, P: Drop, W: Sink + LastError + Drop> Outlet<'a, P, W> {
         }
     }
 
-    /// Writes the rows as JUnit XML to the outlet, each with the lines about it.
+    /// Writes the rows as JUnit XML to the outlet, each row with the lines about its job.
     pub(crate) fn put_junit<T: RowReporter, O: Sink>(
         &mut self,
         alloc: Global,
@@ -271,7 +271,7 @@ impl<'a, P: Drop, W: Sink + LastError + Drop> Outlet<'a, P, W> {
     }
 }
 
-// Returns the result of writing a text to standard output, with the error as a stop.
+// Converts the result of writing a text to standard output; an error becomes a stop.
 fn stdout_result(written: Result<(), WriteError>) -> Result<(), Stop>
     ensures same_success { MatchResult written (λ _. IsOk result) (λ _. IsErr result) }
     ensures stopped { IfErr result (λ stop. MatchResult written (λ _. ⊥) (λ error. stop ≡ stop_of_write_error error)) }
@@ -283,7 +283,7 @@ fn stdout_result(written: Result<(), WriteError>) -> Result<(), Stop>
     }
 }
 
-// Returns the result of writing a text to the file for a path, with the error as a stop; `reason` is the reason of a failed write.
+// Converts the result of writing a text to the file at a path; an error becomes a stop. `reason` is the reason of the failed write.
 fn file_result(
     alloc: Global,
     path: &str,
@@ -301,21 +301,21 @@ fn file_result(
     }
 }
 
-/// Returns the error that the file for the path could not be written completely, for this reason.
+/// Returns the error for a file that could not be written completely, for this reason.
 pub(crate) fn unwritten_stop(alloc: Global, path: &str, reason: ErrorKind) -> Stop
     ensures { IsWriteFailedStop path.now result }
 {
     write_stop(alloc, path, reason)
 }
 
-// Returns the error that a write to the file for the path failed, for this reason.
+// Returns the error for a failed write to the file at the path, for this reason.
 fn write_stop(alloc: Global, path: &str, reason: ErrorKind) -> Stop
     ensures { IsWriteFailedForReasonStop path.now reason result }
 {
     Stop::system_failure(path_message(alloc, path, write_error_text(reason)))
 }
 
-/// Abandons the files of both outlets, so that neither is created.
+/// Abandons the files of both outlets, so that neither appears at its path.
 pub(crate) fn abandon_outlets<F: Outputs>(files: &mut F, outlets: Outlets<'_, F::Place, F::File>)
     ensures { F.committed files.new ≡ F.committed files.old }
 {
@@ -324,7 +324,7 @@ pub(crate) fn abandon_outlets<F: Outputs>(files: &mut F, outlets: Outlets<'_, F:
     abandon_outlet(files, report);
 }
 
-/// Abandons the file of an outlet, if it has one, so that it is not created.
+/// Abandons the file of an outlet, if it has one, so that it does not appear at its path.
 pub(crate) fn abandon_outlet<F: Outputs>(files: &mut F, outlet: Outlet<'_, F::Place, F::File>)
     ensures { F.committed files.new ≡ F.committed files.old }
 {

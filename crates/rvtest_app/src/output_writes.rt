@@ -1,4 +1,4 @@
-//! What a command writes: the text that it shows, and the two files.
+//! Writing what a command shows, and its report and JUnit XML.
 
 ghost use Rattle.std.specs.Prelude.{◌≡◌, ◌++◌, [], ℕ, List, Option, IfErr, OnErr, OnOk, Some};
 ghost use Rattle.std.specs.Io.KnownBytes.{Appends};
@@ -20,7 +20,7 @@ use rv_junit::Cases;
 use rv_rows::RowReporter;
 use std::alloc::Global;
 
-/// Writes the output of a command to standard error if `to_stderr` is true, and otherwise to standard output.
+/// Writes the text that a command shows to standard error if `to_stderr` is true, and otherwise to standard output.
 pub(crate) fn write_shown<F: Outputs + Drop, O: Sink + Drop, E: Sink + Drop>(
     destinations: &mut Destinations<F, O, E>,
     text: &[u8],
@@ -38,8 +38,8 @@ pub(crate) fn write_shown<F: Outputs + Drop, O: Sink + Drop, E: Sink + Drop>(
     write_results(&mut destinations.out, text)
 }
 
-/// Writes the report and the JUnit XML to their outlets, and then moves their files to their paths, the JUnit file first. After an error no
-/// file is created, unless only the second one could not be moved to its path.
+/// Writes the report and the JUnit XML to their outlets, and then moves the files to their paths, the JUnit file first. After an error
+/// neither file appears at its path, except the JUnit file if only moving the report failed.
 pub(crate) fn put_files<F: Outputs + Drop, O: Sink + Drop, E: Sink + Drop, T: RowReporter>(
     alloc: Global,
     destinations: &mut Destinations<F, O, E>,

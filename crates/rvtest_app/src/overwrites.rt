@@ -1,4 +1,4 @@
-//! Files of a command that would overwrite its inputs.
+//! Rejecting output files that would overwrite the inputs of a command.
 
 ghost use Rattle.std.specs.Prelude.{◌≡◌, ◌++◌, ◌<◌, ◌∷◌, [], ℕ, List, None, IfErr, IfOk, IfSome, OnOk, false, length, map};
 ghost use Rattle.std.specs.List.{list_any};
@@ -43,7 +43,7 @@ fn file_identities<F: Outputs>(
     Ok(identities)
 }
 
-/// Returns an error if an option names a file that would overwrite an input.
+/// Returns an error if `option` names an output file and writing it would overwrite an input.
 pub(crate) fn reject_option_overwrite<F: Outputs>(
     files: &F,
     alloc: Global,
@@ -61,7 +61,7 @@ pub(crate) fn reject_option_overwrite<F: Outputs>(
     }
 }
 
-/// Returns an error if writing the file at the path would overwrite an input.
+/// Returns an error if writing the file at the path would overwrite an input. `option` says how the message refers to the file.
 pub(crate) fn reject_file_overwrite<F: Outputs>(
     files: &F,
     alloc: Global,
@@ -84,7 +84,7 @@ pub(crate) fn reject_file_overwrite<F: Outputs>(
 }
 
 impl<'a> InputFiles<'a> {
-    /// Returns the index of the first input whose identity is in `identities`; `None` if there is none.
+    /// Returns the index of the first input that is one of the files with these identities; `None` if there is none.
     pub(crate) fn first_among(&self, identities: &[Text]) -> Option<usize>
         ensures within { IfSome result (λ index. index < length self.now.identities.items) }
         ensures none { result ≡ None → list_any (is_among identities.now) self.now.identities.items ≡ false }
@@ -98,7 +98,7 @@ impl<'a> InputFiles<'a> {
     }
 }
 
-/// Whether `identities` has the identity `identity`.
+/// Whether `identity` is one of `identities`.
 pub(crate) fn is_among(identities: &[Text], identity: &Text) -> bool
     ensures { result ≡ is_among identities.now identity.now }
 {
@@ -107,7 +107,7 @@ pub(crate) fn is_among(identities: &[Text], identity: &Text) -> bool
         .any(|file| file.as_str() == identity.as_str())
 }
 
-/// Returns the error that `option`, with this path, would overwrite `input`.
+/// Returns the error for `option`, with this path, which would overwrite `input`.
 pub(crate) fn overwrite_stop<'a>(
     alloc: Global,
     option: &'a str,
@@ -119,7 +119,7 @@ pub(crate) fn overwrite_stop<'a>(
     Stop::rejection(overwrite_message(alloc, option, path, input))
 }
 
-// Returns the message that `option`, with this path, would overwrite `input`.
+// Returns the message for `option`, with this path, which would overwrite `input`.
 fn overwrite_message<'a>(
     alloc: Global,
     option: &'a str,
@@ -135,7 +135,7 @@ fn overwrite_message<'a>(
     Ok(text)
 }
 
-// Returns the first half of the message: that `option`, with this path, would overwrite a file.
+// Returns the first half of that message: `option` with its path, and "would overwrite".
 fn overwrite_prefix<'a>(
     alloc: Global,
     option: &'a str,
@@ -155,7 +155,7 @@ fn overwrite_prefix<'a>(
     )
 }
 
-// Appends how a message refers to an input: by its placeholder in the usage, such as LIST, or by the key of the job that names it.
+// Appends how a message refers to an input: by a phrase such as "the job list", or by the key and the job that name it.
 fn push_input_role(text: &mut Vec<u8>, role: InputRole<'_>) -> Result<(), AllocError>
     ensures { OnOk result (text.new.items ≡ text.old.items ++ input_role_text role.entry) }
 {
@@ -165,7 +165,7 @@ fn push_input_role(text: &mut Vec<u8>, role: InputRole<'_>) -> Result<(), AllocE
     }
 }
 
-// Appends how a message refers to an input that a job names: by the key and the job's name.
+// Appends how a message refers to an input that a job names: by the key and the name of the job.
 fn push_job_input_text<'a>(text: &mut Vec<u8>, key: &'a str, job: &'a str) -> Result<(), AllocError>
     ensures { OnOk result (text.new.items ≡ text.old.items ++ job_input_text key.now job.now) }
 {
@@ -181,7 +181,7 @@ fn push_job_input_text<'a>(text: &mut Vec<u8>, key: &'a str, job: &'a str) -> Re
     )
 }
 
-// Appends the second half of the message: a colon and the path of the input in double quotes.
+// Appends the second half of that message: a colon and the path of the input in double quotes.
 fn push_input_path(text: &mut Vec<u8>, path: &str) -> Result<(), AllocError>
     ensures { OnOk result (text.new.items ≡ text.old.items ++ input_path_text path.now) }
 {
@@ -195,7 +195,7 @@ fn push_input_path(text: &mut Vec<u8>, path: &str) -> Result<(), AllocError>
     )
 }
 
-/// Appends the input that `role` describes, with its path resolved against `root` if given.
+/// Appends an input to the list, with its path resolved against `root` if given. `role` says how messages refer to it.
 pub(crate) fn push_input<'a>(
     alloc: Global,
     inputs: &mut Vec<InputPath<'a>>,
@@ -210,7 +210,7 @@ pub(crate) fn push_input<'a>(
     Ok(())
 }
 
-/// Returns the inputs at these paths; messages refer to each of them as `word`.
+/// Returns the inputs at these paths; messages refer to each of them by `word`.
 pub(crate) fn inputs_of_args<'a>(
     alloc: Global,
     paths: &[&str],

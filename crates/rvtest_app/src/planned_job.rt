@@ -1,4 +1,4 @@
-//! What gdb is shown of a job at the end of its run.
+//! What gdb shows of a job at the end of its run.
 
 ghost use Rattle.std.specs.Prelude.{◌≡◌, ◌<◌, IfOk, is_ok, length, slice_index_or, true};
 ghost use Rattle.rv_gdb.specs.Places.{IsReached};
@@ -31,7 +31,7 @@ impl EndText for PlannedJob {
 
     ghost end_text = { λ job. job_end_text job.plan job.unread.items job.index };
 
-    // Appends the text that `run` prints about the job, given its machine after `steps` steps of the run.
+    // Appends the text that `run` prints about the job, given its machine after `steps` steps.
     #[tactic(auto, unfolding(crate::specs::Debugging::job_end_text))]
     fn push_end_text(
         &self,
@@ -52,7 +52,7 @@ impl EndText for PlannedJob {
     }
 }
 
-// Returns the row of the job, given its machine after `steps` steps of the run.
+// Returns the row of the job, given its machine after `steps` steps.
 fn row_after_steps(
     alloc: Global,
     job: &PlannedJob,
@@ -63,7 +63,7 @@ fn row_after_steps(
     ensures { IfOk result (λ row. (d : AJob) → row
         ≡ row_of job.now.plan (slice_index_or job.now.plan.jobs job.now.index d)) }
 {
-    // No session runs past the job's budget; the machine would be of no use there.
+    // A session ends at the job's budget, so `steps` is not greater. If it were, the machine could not be used.
     if job.plan.job(job.index).budget < steps {
         return row_at(alloc, &job.plan, job.index);
     }

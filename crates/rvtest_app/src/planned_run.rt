@@ -1,4 +1,4 @@
-//! The jobs to run: requested, selected in a list, and then at indices of a plan.
+//! The jobs of a run: as requested, as selected in a list, and as indices of a plan.
 
 ghost use Rattle.std.specs.Prelude.{◌≡◌, ◌≤◌, length, take};
 ghost use Rattle.std.specs.Option.{ForSome};
@@ -10,11 +10,11 @@ use rv_expect::KnownJobs;
 use rv_job_text::TextReporter;
 use rv_rows::JobList;
 
-/// The jobs of a list, and the selection of those that are requested.
+/// The jobs of a list, and which of them are requested.
 #[derive(Drop)]
 pub(crate) struct RequestedJobs {
     pub(crate) jobs: JobList,
-    /// `None` if no job is to run.
+    /// Whether each job is to run; `None` if none is.
     pub(crate) selection: Option<Vec<bool>>,
     pub(crate) context: ReportContext,
     /// The notes about the choice.
@@ -23,13 +23,13 @@ pub(crate) struct RequestedJobs {
     ghost old_row_per_job: { ForSome context.old (λ rows. length rows ≡ length jobs) },
 }
 
-/// The jobs of a list, the selection of those to run, and which are known to fail.
+/// The jobs of a list, which of them are to run, and which are known to fail.
 #[derive(Drop)]
 pub(crate) struct SelectedJobs {
     pub(crate) jobs: JobList,
     pub(crate) selection: Vec<bool>,
     pub(crate) context: ReportContext,
-    /// The jobs that are known to fail, with `--known`.
+    /// The jobs that are known to fail; `None` without `--known`.
     pub(crate) known: Option<KnownJobs>,
     ghost same_length: { length selection.items ≡ length jobs },
     ghost old_row_per_job: { ForSome context.old (λ rows. length rows ≡ length jobs) },

@@ -15,8 +15,8 @@ use rvtest_cli::{ChoosingCommand, ProfileArgs};
 use std::sync::Wait;
 use std::thread::Threads;
 
-/// Writes a profile of the requested jobs, which shows the steps of each function, from a run of these jobs or from a table of counts. The
-/// status is 0.
+/// Writes a profile of the requested jobs, which shows the steps of each function. The counts come from a run of these jobs or from a table
+/// of counts. The status is 0.
 pub(crate) fn profile_requested_jobs<
     R: Threads + Wait + Sync,
     D: Inputs,
@@ -42,7 +42,7 @@ pub(crate) fn profile_requested_jobs<
     view.write_view(ChoosingCommand::Profile, destinations)
 }
 
-// Returns the format of a profile: whether it is CSV, and the largest number of functions of each image.
+// Returns the requested format of a profile: whether it is CSV, and at most how many functions of each image it shows.
 fn profile_format(args: &ProfileArgs<'_>) -> ProfileFormat
     ensures { result ≡ profile_format args.now }
 {

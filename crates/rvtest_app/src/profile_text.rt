@@ -1,4 +1,4 @@
-//! What `profile` shows for a table, and which tables it rejects.
+//! The text of `profile` for a table of counts, and the tables that it rejects.
 
 ghost use Rattle.std.specs.Prelude.{◌≡◌, ◌⊎◌, IfErr, IfOk};
 ghost use Rattle.rv_count_tables.specs.Table.{IsValidTable};
@@ -12,8 +12,8 @@ use rv_job_text::{Span, text_of_spans};
 use rv_profile::{ImageFile, ProfileFormat, image_past_64_bits, profile_text};
 use std::alloc::{AllocError, Global};
 
-/// Returns the profile of the images, computed from the call stacks of a table. The error that a sum does not fit in 64 bits names
-/// `source`, the path of the table or list.
+/// Returns the profile of the images, from the call stacks of a table of counts. It is an error if a sum does not fit in 64 bits; the
+/// message names `source`, the path of the table or list.
 pub(crate) fn text_of_profile(
     alloc: Global,
     source: &str,
@@ -32,7 +32,7 @@ pub(crate) fn text_of_profile(
     }
 }
 
-// Returns the message that the sum of an image's call stacks does not fit in 64 bits.
+// Returns the message for an image whose sum over the call stacks does not fit in 64 bits.
 fn past_64_bits_message<'a>(
     alloc: Global,
     source: &'a str,

@@ -1,4 +1,4 @@
-//! The whole program, given files, sinks and terminals.
+//! The whole program, given the files, sinks and terminals that it uses.
 
 ghost use Rattle.std.specs.Prelude.{◌≡◌, ◌⊎◌, ◌≤◌, ℕ, List, Option, Ok, Err, IfErr, IfOk, MatchResult, false, map};
 ghost use Rattle.std.specs.IoError.{error_kind};
@@ -62,12 +62,11 @@ pub fn run_rvtest<
 where
     F::File: Send,
     ensures status_bound { O.closed result.0.out ≡ false → result.1 ≤ 3 }
-    // A status of 0 or 1 means that everything was written, to standard output in the requested colours.
+    // If the status is 0 or 1, the command was carried out, and all its output was written, with the requested colors on standard output.
     ensures carried_out { result.1 ≤ 1 → IsCarriedOut (D.contents host.now.inputs.now) (I.remaining input.old)
         terminals.is_out_terminal terminals.is_out_colored (map T.text args.entry.now) result.1
         (outputs_of F.committed O.accepted E.accepted E.failure_count destinations) (outputs_of F.committed O.accepted E.accepted E.failure_count result.0) }
-    // Any other status means that the command stopped before its work was done and that its last output says so, except when the reader
-    // closed standard output.
+    // Any other status means that the command stopped early and that its last output says why, except if the reader closed standard output.
     ensures ended { IsCarriedOut (D.contents host.now.inputs.now) (I.remaining input.old)
         terminals.is_out_terminal terminals.is_out_colored (map T.text args.entry.now) result.1
         (outputs_of F.committed O.accepted E.accepted E.failure_count destinations) (outputs_of F.committed O.accepted E.accepted E.failure_count result.0)
@@ -102,7 +101,7 @@ where
     }
 }
 
-// Runs the requested command, with its results on standard output coloured as requested.
+// Runs the requested command. Its results on standard output are colored as requested.
 fn run_in_colors<
     J: ColorSpec + Send + Sync,
     R: Threads + Wait + Sync + Clock,
@@ -128,7 +127,7 @@ where
         terminals.is_out_terminal terminals.is_out_colored request.entry status
         (outputs_of F.committed O.accepted E.accepted E.failure_count destinations) (outputs_of F.committed O.accepted E.accepted E.failure_count result.0)) }
     ensures stopped { IfErr result.1 (IsCommandStop (D.contents host.now.inputs.now) terminals.is_out_terminal request.entry) }
-    // Whatever the result, standard output received coloured results, followed at most by the first bytes of an escape sequence.
+    // Whatever the outcome, standard output received a part of the colored results; an escape sequence at the end can be incomplete.
     ensures shown { (plain : Option (List ℕ)) × IsPartlyColoredAs (requested_colors request.entry terminals.is_out_colored)
         (O.accepted destinations.out) plain (O.accepted result.0.out) }
 {
@@ -143,7 +142,7 @@ where
     (destinations, outcome_if_written(outcome, finish_result))
 }
 
-// Returns the outcome of the command, or an error if it succeeded but its coloured results were not written completely.
+// Returns the outcome of the command, or an error if it succeeded but its colored results were not written completely.
 fn outcome_if_written(
     outcome: Result<u8, Stop>,
     finish_result: Result<(), SinkFailed>,
@@ -180,7 +179,7 @@ where
     ensures done { IfOk result.1 (λ status. IsCommandDone (D.contents host.now.inputs.now) (I.remaining input.old)
         terminals.is_out_terminal request.entry status
         (outputs_of F.committed O.accepted E.accepted E.failure_count destinations) (outputs_of F.committed O.accepted E.accepted E.failure_count result.0)) }
-    // A command that a failed write could not have stopped wrote nothing.
+    // If a command that cannot stop because of a failed write succeeded, it wrote nothing to standard output.
     ensures out_unchanged { IfOk result.1 (λ _.
         IsCommandStop (D.contents host.now.inputs.now) terminals.is_out_terminal request.entry Stop.WriteFailed
         ⊎ (result.0.out ≡ destinations.out)) }
@@ -223,7 +222,7 @@ where
     (destinations, outcome)
 }
 
-/// Reports that the program cannot get its arguments: memory ran out, or an argument is not UTF-8. Returns the exit status.
+/// Reports that the program cannot read its arguments, because memory ran out or an argument is not UTF-8. Returns the exit status.
 pub fn reject_unreadable_args<E: Sink>(error: &io::Error, errors: &mut E) -> u8
     ensures status_bound { result ≤ 3 }
     ensures status { result ≡ unreadable_args_status (error_kind error.now) }

@@ -15,8 +15,7 @@ use rv_rows::{Plan, refusal_at, row_at};
 use rvtest_cli::RunArgs;
 use std::alloc::{AllocError, Global};
 
-/// Returns the note about missing images, which may be empty, and then the result lines of the refused jobs among the jobs at these
-/// indices.
+/// Returns the note about missing images, which can be empty, and then the result lines of those jobs at these indices that are refused.
 pub(crate) fn refused_note(
     alloc: Global,
     args: &RunArgs<'_>,
@@ -39,7 +38,7 @@ pub(crate) fn refused_note(
     Ok(note)
 }
 
-// Appends the result lines of the refused jobs among the jobs at these indices.
+// Appends the result lines of those jobs at these indices that are refused.
 fn push_refused_lines(
     alloc: Global,
     reporter: &TextReporter<'_>,

@@ -1,21 +1,21 @@
-//! The report text of a row, written as the row comes.
+//! The text of a row in a report, for rows that are written as soon as they are known.
 
 ghost use Rattle.rvtest_app.specs.IntoReports.{report_row_text};
 
 use rv_rows::{Row, RowReporter, push_row};
 use std::alloc::{AllocError, Global};
 
-/// Reports each row as it is written in a report.
+/// Reports each row with its text in a report.
 #[derive(Clone, Copy)]
 pub(crate) struct ReportRowReporter {
-    /// Whether rows are written as soon as their jobs have finished. If not, each text is empty.
+    /// Whether the report's rows are written as soon as their jobs finish. If not, every text is empty.
     pub(crate) is_streaming: bool,
 }
 
 impl RowReporter for ReportRowReporter {
     ghost line = { λ reporter index row. report_row_text reporter.is_streaming index row };
 
-    // Appends the row of the job at index `index`, as the report has it, if rows are streamed; otherwise nothing.
+    // Appends the text of the row of the job at index `index` in a report, if rows are written early; otherwise nothing.
     fn push_row_text(
         &self,
         alloc: Global,
@@ -27,7 +27,7 @@ impl RowReporter for ReportRowReporter {
             return Ok(());
         }
         if index == usize::MAX {
-            // Out of memory: no memory has so many jobs.
+            // The number of the job does not fit. No memory has room for so many jobs, so this is reported as a lack of memory.
             return Err(AllocError);
         }
         let mut row_text = String::new(alloc);

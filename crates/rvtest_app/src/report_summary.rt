@@ -1,4 +1,4 @@
-//! What a person is shown of a report.
+//! The summary of a report.
 
 ghost use Rattle.std.specs.Prelude.{◌≡◌, ◌++◌, ◌<◌, ◌^◌, OnOk, length};
 ghost use Rattle.std.specs.List.{flat_map};
@@ -12,7 +12,8 @@ use rv_job_text::{Span, push_spans, push_text, push_totals_line};
 use rv_rows::Row;
 use std::alloc::{AllocError, Global};
 
-/// Appends what `show` prints about the rows of a report: a line for each failure, the totals, and the rows with the most steps.
+/// Appends what `show` prints about the rows of a report: a result line for each failure, the line of totals, and the rows with the most
+/// steps.
 #[tactic(auto, unfolding(crate::specs::ReportSummary::summary_text))]
 pub fn push_summary(
     alloc: Global,
@@ -44,7 +45,7 @@ fn push_failed_lines(
     Ok(())
 }
 
-// Appends a heading and the lines of the rows with the most steps.
+// Appends a heading and a line for each of the rows with the most steps.
 fn push_most_steps(alloc: Global, text: &mut Vec<u8>, rows: &[Row]) -> Result<(), AllocError>
     ensures { OnOk result (text.new.items ≡ text.old.items ++ most_steps_text rows.now) }
 {

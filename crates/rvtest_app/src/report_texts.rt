@@ -1,4 +1,4 @@
-//! The texts of reports: of all rows of a list, or of those of chosen jobs, which may be merged into a whole report.
+//! The texts of reports: of a whole list, of chosen jobs, or of a whole list after an update by chosen jobs.
 
 ghost use Rattle.std.specs.Prelude.{◌≡◌, IfErr, OnErr, OnOk, length};
 ghost use Rattle.std.specs.Option.{ForSome};
@@ -16,19 +16,19 @@ use rv_files::Sink;
 use rv_rows::{Report, Row, Rows, Shard, WriteError, write_report};
 use std::alloc::Global;
 
-/// The contents of a report.
+/// The contents of a report that is to be written.
 #[derive(Drop)]
 pub(crate) enum ReportText<'a> {
     /// All rows of a list.
     Whole(Rows),
-    /// The rows of chosen jobs, or of the jobs of a shard. A file receives them as soon as their jobs have finished.
+    /// The rows of chosen jobs, or of the jobs of a shard. If the report goes to a file, they are written as soon as their jobs finish.
     Chosen(ChosenRows<'a>, Option<Shard>),
-    /// The rows of chosen jobs, and the rows of the report that they update.
+    /// The rows of chosen jobs, and the rows of the old report that they update.
     Into(IntoRows<'a>),
 }
 
 impl<'a> ReportText<'a> {
-    /// Returns the rows of the run, without the rows of an old report that they update.
+    /// Returns the rows of the run, without those of an old report.
     pub(crate) fn rows(&self) -> &[Row]
         ensures { result.now ≡ report_rows self.now }
     {
@@ -39,7 +39,7 @@ impl<'a> ReportText<'a> {
         }
     }
 
-    /// Writes the report. After an error, a prefix of it has been written.
+    /// Writes the whole report. After an error, a prefix of it has been written.
     pub(crate) fn write<W: Sink>(self, alloc: Global, out: &mut W) -> Result<(), WriteError>
         ensures written { OnOk result
             (Appends (W.accepted out.old) (W.accepted out.new) (report_text_of self.entry)) }
@@ -56,7 +56,8 @@ impl<'a> ReportText<'a> {
         }
     }
 
-    /// Writes the part of the report that is written after all jobs have finished. After an error, a prefix of it has been written.
+    /// Writes the rest of the report, to a file that received the rows of chosen jobs while they ran: the last line, or everything if rows
+    /// are not written early. After an error, a prefix of it has been written.
     pub(crate) fn write_rest<W: Sink>(self, alloc: Global, out: &mut W) -> Result<(), WriteError>
         ensures written { OnOk result
             (Appends (W.accepted out.old) (W.accepted out.new) (report_rest_of self.entry)) }
@@ -74,7 +75,7 @@ impl<'a> ReportText<'a> {
     }
 }
 
-// Writes the old report, updated with the new rows. After an error, a prefix of it has been written.
+// Writes the old report with the rows of the chosen jobs replaced. After an error, a prefix of it has been written.
 fn write_whole_report<W: Sink>(
     alloc: Global,
     into: IntoRows<'_>,
@@ -92,7 +93,7 @@ fn write_whole_report<W: Sink>(
     write_report(alloc, &Report { rows }, out)
 }
 
-/// Returns the report to write: the old report, updated with these rows, if there is one; otherwise a report of these rows alone.
+/// Returns the report to write: the old report updated with these rows if there is one, and otherwise a report of these rows alone.
 pub(crate) fn report_with_context(chosen: ChosenRows<'_>, context: ReportContext) -> ReportText<'_>
     requires { ForSome context.old (λ rows. length rows ≡ chosen.jobs) }
     ensures text { report_text_of result

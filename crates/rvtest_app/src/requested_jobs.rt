@@ -1,4 +1,4 @@
-//! The requested jobs of a run, and the rows that its report has already.
+//! The jobs that a run is requested to run, and the rows of the report that it updates.
 
 ghost use Rattle.std.specs.Prelude.{◌≡◌, ◌≤◌, ◌<◌, [], None, Option, Some, IfErr, IfOk, length, option_map};
 ghost use Rattle.std.specs.Option.{ForSome};
@@ -24,8 +24,7 @@ use rv_rows::{Job, JobList, Rows, Shard};
 use rvtest_cli::ChoosingCommand;
 
 impl<'x, R, D: Inputs> ListRun<'x, R, D> {
-    /// Returns the jobs of the list, with the selection of the jobs to run. If the arguments are rejected, the error shows the usage of
-    /// `command`.
+    /// Returns the jobs of the list, and which of them are to run. If the arguments are rejected, the message shows the usage of `command`.
     pub(crate) fn requested_jobs(&self, command: ChoosingCommand) -> Result<RequestedJobs, Stop>
         requires { self.now.rule ≡ failure_rule self.now.args.now.lenient }
         ensures requested { IfOk result (λ requested. AreRequestedJobs (D.contents self.now.host.now.inputs.now)
@@ -44,7 +43,7 @@ impl<'x, R, D: Inputs> ListRun<'x, R, D> {
         }
     }
 
-    // Returns the rows of the report of `--into`, which the run updates; `None` without this option.
+    // Returns the rows of the report that `--into` names and the run updates; `None` without this option.
     fn old_rows(&self, jobs: &[Job]) -> Result<Option<Rows>, Stop>
         ensures old { IfOk result (AreOldRows (D.contents self.now.host.now.inputs.now) self.now.args.now jobs.now) }
         ensures same_length { IfOk result (λ old. ForSome old (λ rows. length rows ≡ length jobs.now)) }
@@ -58,7 +57,7 @@ impl<'x, R, D: Inputs> ListRun<'x, R, D> {
         Ok(Some(rows))
     }
 
-    // Returns the jobs of the list, with the jobs of the shard selected.
+    // Returns the jobs of the list, and selects those of the shard.
     fn jobs_of_shard(
         &self,
         jobs: JobList,
@@ -86,7 +85,7 @@ impl<'x, R, D: Inputs> ListRun<'x, R, D> {
         })
     }
 
-    // Returns the jobs of the list, with the jobs selected that options such as `--only` choose.
+    // Returns the jobs of the list, and selects those that options such as `--only` choose.
     fn jobs_of_choice(
         &self,
         command: ChoosingCommand,

@@ -16,8 +16,8 @@ use rv_rows::{
 };
 use std::alloc::{AllocError, Global};
 
-/// Writes the report of these rows: of a shard if one is given, else of the whole list if all its jobs are chosen, else of chosen jobs.
-/// After an error, a prefix of it has been written.
+/// Writes a report of these rows: of a shard if one is given, else of a whole list if all jobs are chosen, else of chosen jobs. After an
+/// error, a prefix of it has been written.
 pub(crate) fn write_chosen_report<W: Sink>(
     alloc: Global,
     chosen: ChosenRows<'_>,

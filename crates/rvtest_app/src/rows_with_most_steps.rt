@@ -23,7 +23,7 @@ pub(crate) fn rows_with_most_steps(alloc: Global, rows: &[Row]) -> Result<Vec<&R
     Ok(top_rows)
 }
 
-// Inserts a row after all rows that have more steps than it, and drops the last row if there are then too many.
+// Inserts a row after all rows that have more steps, unless it would be beyond the limit, and drops the last row if there are too many.
 fn insert_by_steps<'a>(top_rows: &mut Vec<&'a Row>, row: &'a Row) -> Result<(), AllocError>
     requires { length top_rows.old.items ≤ MAX_SHOWN }
     ensures rows { OnOk result (map (λ row. row.now) top_rows.new.items
@@ -39,7 +39,7 @@ fn insert_by_steps<'a>(top_rows: &mut Vec<&'a Row>, row: &'a Row) -> Result<(), 
     Ok(())
 }
 
-// Returns the length of the longest prefix of `top_rows` in which every row has more steps than `steps`.
+// Returns the number of rows at the beginning of `top_rows` that have more steps than `steps`, up to the first row that does not.
 fn rank_by_steps(top_rows: &[&Row], steps: u32) -> usize
     ensures rank { result ≡ prefix_len (λ row. nat_lt steps row.now.steps) top_rows.now }
     ensures within { result ≤ length top_rows.now }

@@ -1,4 +1,4 @@
-//! Which rows are failures, and the status for rows.
+//! Which rows are failures, and the exit status that follows.
 
 ghost use Rattle.std.specs.Prelude.{◌≡◌, ◌≤◌};
 ghost use Rattle.rv_expect.specs.Judgement.{judge_view};
@@ -9,7 +9,7 @@ use rv_command::{DONE, SOME_FAIL};
 use rv_expect::{Judge, Rule};
 use rv_rows::Row;
 
-/// Returns the rule by which jobs fail: lenient with `--lenient`, and otherwise strict.
+/// Returns the rule that decides which rows are failures: lenient with `--lenient`, and otherwise strict.
 pub(crate) fn failure_rule(is_lenient: bool) -> Rule
     ensures { result ≡ failure_rule is_lenient }
 {
@@ -20,14 +20,14 @@ pub(crate) fn failure_rule(is_lenient: bool) -> Rule
     }
 }
 
-/// Returns how the rows of a report are judged, with or without `--lenient`; no job is known to fail.
+/// Returns the judge for the rows of a report, with or without `--lenient`. No job is known to fail.
 pub(crate) fn report_judge<'a>(is_lenient: bool) -> Judge<'a>
     ensures { judge_view result ≡ report_judging is_lenient }
 {
     Judge::with_rule(failure_rule(is_lenient))
 }
 
-/// Returns the exit status for a single job: [`DONE`] if it passed, and otherwise [`SOME_FAIL`].
+/// Returns the exit status of a command for one job: [`DONE`] if the job passed, and otherwise [`SOME_FAIL`].
 pub(crate) fn passing_status(passed: bool) -> u8
     ensures value { result ≡ passing_status passed }
     ensures status_bound { result ≤ 1 }

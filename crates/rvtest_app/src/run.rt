@@ -35,11 +35,11 @@ use std::time::Clock;
 pub(crate) struct ListRun<'x, R, D> {
     pub(crate) host: &'x Host<'x, R, D>,
     pub(crate) args: &'x RunArgs<'x>,
-    /// The rule by which rows are failures.
+    /// The rule that decides which rows are failures.
     pub(crate) rule: Rule,
 }
 
-/// Runs the requested jobs, prints their results, and writes their report. The status is 1 if one of them failed, and otherwise 0.
+/// Runs the requested jobs, shows their results, and writes the requested files. The status is 1 if a job failed, and otherwise 0.
 pub(crate) fn run_requested_jobs<
     R: Threads + Wait + Sync + Clock,
     D: Inputs,
@@ -63,7 +63,7 @@ where
     ensures out_unchanged { IfOk result.1 (λ _. AreJobsToRun (D.contents host.now.inputs.now) args.now
         ⊎ (result.0.out ≡ destinations.out)) }
     ensures stopped { IfErr result.1 (IsRunStop (D.contents host.now.inputs.now) args.now) }
-    // The inputs of the run are not overwritten.
+    // No input of the run is overwritten.
     ensures inputs_preserved { AreRunInputsPreserved (D.contents host.now.inputs.now) args.now (F.committed destinations.files) (F.committed result.0.files) }
 {
     let run = ListRun {
@@ -110,7 +110,7 @@ where
 }
 
 impl<'x, R: Threads + Wait + Sync + Clock, D: Inputs> ListRun<'x, R, D> {
-    // Reads the files that the selected jobs need, runs these jobs, and writes their outputs. A requested budget applies to every job.
+    // Reads the files that the selected jobs need, runs these jobs, and writes the output. A requested budget replaces that of every job.
     fn run_selected_jobs<
         F: Outputs + Drop,
         O: Sink + Drop + Send,
@@ -197,7 +197,7 @@ pub(crate) fn gather_jobs_at<S: Store>(
     gather_jobs(alloc, jobs, Vec::from_slice(alloc, indices)?, store)
 }
 
-// Returns which rows are shown: none with `--quiet`, all with only `--verbose`, and otherwise the failures.
+// Returns which rows are shown: none with `--quiet`, all with `--verbose` alone, and otherwise only the failures.
 fn requested_verbosity(args: &RunArgs<'_>) -> Verbosity
     ensures { result ≡ requested_verbosity args.now.verbose args.now.quiet }
 {

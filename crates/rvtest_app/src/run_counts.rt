@@ -1,4 +1,4 @@
-//! The counts of a run.
+//! The table of counts of a run.
 
 ghost use Rattle.std.specs.Prelude.{◌≡◌, [], ℕ, List, None, Option, IfErr, IfOk, IfSome, OnErr, OnOk, is_some, string_bytes, true};
 ghost use Rattle.std.specs.List.Sorted.{IsStrictlyIncreasing};
@@ -27,8 +27,8 @@ use std::thread::Threads;
 use std::time::Clock;
 
 impl<'x, R: Threads + Wait + Sync + Clock, D: Inputs> ListRun<'x, R, D> {
-    /// Writes the table of counts of the jobs to the outlet: the table of the run before, if there is one, and otherwise that of another
-    /// run of the jobs. Does nothing if no table is requested.
+    /// Writes the table of counts of the jobs to the outlet. If `table` is not given, the jobs are run again to count them. Does nothing if
+    /// no table is requested.
     pub(crate) fn write_counts<F: Outputs + Drop, O: Sink + Drop, E: Sink + Drop>(
         &self,
         planned: &PlannedRun<'_>,
@@ -62,7 +62,8 @@ impl<'x, R: Threads + Wait + Sync + Clock, D: Inputs> ListRun<'x, R, D> {
         }
     }
 
-    // Returns the text of the table of counts of the jobs, with call stacks if requested: of this table, if there is one.
+    // Returns the text of the table of counts of the jobs, with call stacks if requested. If `table` is not given, the jobs are run to
+    // count them.
     fn counts_text(
         &self,
         planned: &PlannedRun<'_>,
@@ -80,7 +81,7 @@ impl<'x, R: Threads + Wait + Sync + Clock, D: Inputs> ListRun<'x, R, D> {
         Ok(table_text(self.host.alloc, &table)?)
     }
 
-    // Returns the table of counts of the jobs at these indices, with call stacks if requested.
+    // Runs the jobs at these indices, and returns their table of counts, with call stacks if requested.
     fn table_of_counts(&self, plan: &Plan, indices: &[usize]) -> Result<CountTable, Stop>
         requires within { AreJobIndices plan.now indices.now }
         requires rising { IsStrictlyIncreasing indices.now }

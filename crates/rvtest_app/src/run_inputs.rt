@@ -1,4 +1,4 @@
-//! The inputs of a run other than the files that it writes.
+//! The files that a run reads and must not overwrite.
 
 ghost use Rattle.std.specs.Prelude.{◌≡◌, ◌++◌, ◌∷◌, [], IfErr, IfOk, IfSome, OnOk};
 ghost use Rattle.rv_command.specs.Texts.{optional_text};
@@ -14,8 +14,8 @@ use rv_rows::Job;
 use rvtest_cli::RunArgs;
 use std::alloc::{AllocError, Global};
 
-/// Returns an error if an output file of a run would overwrite an input: the list, the file of `--known`, a file of any job of the list, or
-/// a report that the run reads, except the one that `--into` updates.
+/// Returns an error if an output file of a run would overwrite an input: the list, the file of known failures, a file of any job of the
+/// list, or a report that the run reads. The report that `--into` names is updated, so overwriting it is no error.
 pub(crate) fn reject_run_overwrites<F: Outputs>(
     files: &F,
     alloc: Global,
@@ -33,7 +33,7 @@ pub(crate) fn reject_run_overwrites<F: Outputs>(
     reject_report_overwrites(files, alloc, args)
 }
 
-// Returns an error if an output file of a run would overwrite a report that it reads, except the one that `--into` updates.
+// Returns an error if an output file of a run would overwrite a report that the run reads, except the one that `--into` updates.
 fn reject_report_overwrites<F: Outputs>(
     files: &F,
     alloc: Global,
@@ -49,7 +49,7 @@ fn reject_report_overwrites<F: Outputs>(
     reject_option_overwrite(files, alloc, "--counts", args.counts, &reports)
 }
 
-// Returns the files that a run must not write: its list, the file of `--known`, and the files of all jobs.
+// Returns the files that a run must not write: its list, the file of known failures, and the files of all jobs.
 fn inputs_of_run<'a>(
     alloc: Global,
     args: &RunArgs<'_>,
@@ -110,7 +110,7 @@ pub(crate) fn push_image_path<'a>(
     push_input(alloc, inputs, root, job.image.as_str(), role)
 }
 
-/// Appends the paths of the job's golden files, resolved against `root`: first the signature, then the console.
+/// Appends the paths of the job's golden files, resolved against `root`: first the signature, then the console output.
 pub(crate) fn push_golden_paths<'a>(
     alloc: Global,
     inputs: &mut Vec<InputPath<'a>>,
@@ -138,7 +138,7 @@ pub(crate) fn push_golden_paths<'a>(
     Ok(())
 }
 
-// Returns the path of the job's golden console; `None` if the job names none.
+// Returns the path of the job's golden file for the console output; `None` if the job names none.
 fn golden_console_path(job: &Job) -> Option<&str>
     ensures { optional_text result ≡ console_path job.now.expect_console }
 {
@@ -148,7 +148,7 @@ fn golden_console_path(job: &Job) -> Option<&str>
     }
 }
 
-/// Returns a list with the path of the report of `--failed`; empty without this option.
+/// Returns a list with the path of the report that `--failed` names; an empty list without this option.
 pub(crate) fn failed_report_path<'a>(
     alloc: Global,
     args: &RunArgs<'_>,
@@ -168,7 +168,7 @@ pub(crate) fn failed_report_path<'a>(
     Ok(inputs)
 }
 
-// Returns the paths of the reports that a run reads, of `--failed` and of `--into`.
+// Returns the paths of the reports that a run reads, which `--failed` and `--into` name.
 fn report_paths_of_run<'a>(
     alloc: Global,
     args: &RunArgs<'_>,

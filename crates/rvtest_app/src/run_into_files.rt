@@ -49,8 +49,8 @@ use std::thread::Threads;
 use std::time::Clock;
 
 impl<'x, R: Threads + Wait + Sync + Clock, D: Inputs> ListRun<'x, R, D> {
-    /// Runs the jobs at some indices of a plan, shows them, and writes the requested files: their report, the JUnit XML and their table of
-    /// counts. All files are opened before the first job runs.
+    /// Runs the jobs at some indices of a plan, shows their results, and writes the requested files: the report, the JUnit XML and the
+    /// table of counts. All files are opened before the first job runs.
     pub(crate) fn run_into_files<
         F: Outputs + Drop,
         O: Sink + Drop + Send,
@@ -128,7 +128,7 @@ impl<'x, R: Threads + Wait + Sync + Clock, D: Inputs> ListRun<'x, R, D> {
         }
     }
 
-    // Writes the files of a run that was shown, or abandons them if it was not shown completely.
+    // Writes the files of a run if it was shown completely, and otherwise abandons them.
     fn finish_run<F: Outputs + Drop, O: Sink + Drop, E: Sink + Drop>(
         &self,
         planned: &PlannedRun<'_>,
@@ -189,7 +189,7 @@ impl<'x, R: Threads + Wait + Sync + Clock, D: Inputs> ListRun<'x, R, D> {
         }
     }
 
-    // Writes the report, the JUnit XML and then the table of counts of a run that was shown, and returns the exit status for its rows.
+    // Writes the report, the JUnit XML and then the table of counts of a run, and returns the exit status for its rows.
     fn write_all_files<F: Outputs + Drop, O: Sink + Drop, E: Sink + Drop>(
         &self,
         planned: &PlannedRun<'_>,
@@ -240,7 +240,7 @@ impl<'x, R: Threads + Wait + Sync + Clock, D: Inputs> ListRun<'x, R, D> {
         }
     }
 
-    // Writes the report and the JUnit XML of the rows of a run, and returns the exit status for these rows.
+    // Writes the report and the JUnit XML of a run's rows, and returns the exit status for these rows.
     fn write_run_files<F: Outputs + Drop, O: Sink + Drop, E: Sink + Drop>(
         &self,
         planned: &PlannedRun<'_>,

@@ -1,4 +1,4 @@
-//! The destinations of a run's files.
+//! Where a run writes its files.
 
 ghost use Rattle.std.specs.Prelude.{◌≡◌, [], IfErr, IfOk};
 ghost use Rattle.rvtest_app.specs.RunOutlets.{HaveRunOutletsReceived};
@@ -11,7 +11,7 @@ use rv_files::Outputs;
 use rvtest_cli::RunArgs;
 use std::alloc::Global;
 
-/// The destinations of a run's report, of its JUnit XML, and of its table of counts.
+/// Where a run writes its report, its JUnit XML and its table of counts.
 #[derive(Drop)]
 pub(crate) struct RunOutlets<'a, P: Drop, W: Drop> {
     pub(crate) report: Outlet<'a, P, W>,
@@ -19,7 +19,7 @@ pub(crate) struct RunOutlets<'a, P: Drop, W: Drop> {
     pub(crate) counts: Outlet<'a, P, W>,
 }
 
-/// Opens the outlets of the report, the JUnit XML and the table of counts. After an error, none is left open.
+/// Opens the outlets for the report, the JUnit XML and the table of counts. After an error, none is open.
 pub(crate) fn open_run_outlets<'a, F: Outputs>(
     files: &mut F,
     alloc: Global,
@@ -44,7 +44,7 @@ pub(crate) fn open_run_outlets<'a, F: Outputs>(
 }
 
 impl<'a, P: Drop, W: Drop> RunOutlets<'a, P, W> {
-    /// Abandons the files, so that none is created.
+    /// Abandons the files, so that none appears at its path.
     pub(crate) fn abandon<F: Outputs<Place = P, File = W>>(self, files: &mut F)
         ensures { F.committed files.new ≡ F.committed files.old }
     {

@@ -1,4 +1,4 @@
-//! What a run whose rows are shown comes to.
+//! The result of a run whose rows are shown.
 
 ghost use Rattle.std.specs.Prelude.{◌≡◌, ◌-◌, ◌≤◌, Err, IfErr, IfOk, Ok, OnErr, OnOk, false, is_ok, is_some, length, true};
 ghost use Rattle.std.specs.Io.KnownBytes.{Appends};
@@ -38,8 +38,8 @@ pub(crate) fn run_if_written(
     }
 }
 
-/// Writes the summary line of a run, which counts its rows and the jobs that have no row, and returns the run. After an error of the run,
-/// returns this error.
+/// Writes the line of totals of a run, which counts its rows and the jobs without a row, and returns the run. If the run has an error,
+/// returns that error and writes nothing.
 pub(crate) fn write_totals_line<W: Sink>(
     alloc: Global,
     judge: &Judge<'_>,
@@ -70,7 +70,7 @@ pub(crate) fn write_totals_line<W: Sink>(
     }
 }
 
-/// Returns the stop for an error that occurred while a run was shown; `report` is the outlet of its report.
+/// Returns the stop for an error during a run that is shown; `report` is the outlet of the report.
 pub(crate) fn show_stop<P: Drop, W: Sink + LastError + Drop>(
     alloc: Global,
     report: &Outlet<'_, P, W>,

@@ -39,7 +39,7 @@ struct SummarizedReport {
     status: u8,
 }
 
-/// Prints the failures in a report, the totals, and the rows with the most steps. The status is 1 if a job failed, and otherwise 0.
+/// Shows the failures in a report, the totals, and the rows with the most steps. The status is 1 if a job failed, and otherwise 0.
 pub(crate) fn show_report<D: Inputs, F: Outputs + Drop, O: Sink + Drop, E: Sink + Drop>(
     inputs: &D,
     alloc: Global,
@@ -52,7 +52,7 @@ pub(crate) fn show_report<D: Inputs, F: Outputs + Drop, O: Sink + Drop, E: Sink 
     ensures committed_after_error { OnErr result (IsAbortedShowAt (D.contents inputs.now) args.entry
         (F.committed destinations.old.files) (F.committed destinations.new.files)) }
     ensures stopped { IfErr result (IsShowStop (D.contents inputs.now) args.entry) }
-    // The report is not overwritten.
+    // The input report is not overwritten.
     ensures inputs_preserved { HoldsIfCommitted (IsShowFileNotAnInput args.entry) (F.committed destinations.old.files) (F.committed destinations.new.files) }
 {
     reject_show_overwrite(&destinations.files, alloc, &args)?;
@@ -69,7 +69,7 @@ pub(crate) fn show_report<D: Inputs, F: Outputs + Drop, O: Sink + Drop, E: Sink 
     Ok(status)
 }
 
-// Returns an error if the JUnit file would overwrite the report.
+// Returns an error if writing the JUnit file would overwrite the report.
 fn reject_show_overwrite<F: Outputs>(
     files: &F,
     alloc: Global,

@@ -1,4 +1,4 @@
-//! A run whose rows are shown and written as they come.
+//! A run whose rows are shown and written while the jobs run.
 
 ghost use Rattle.std.specs.Prelude.{◌≡◌, ◌&&◌, ◌≤◌, [], ℕ, List, IfErr, IfOk, IfSome, None, OnOk, is_some, length, not, true};
 ghost use Rattle.std.specs.Io.KnownBytes.{Appends};
@@ -43,8 +43,8 @@ pub(crate) struct RunDisplay<W: Drop> {
     pub(crate) is_terminal: bool,
 }
 
-/// The result of a run that was shown: the kept texts of failures, and the rows with their table if they were counted, or why not all
-/// rows were shown and written.
+/// The result of a run that was shown: the texts of failures that were kept for JUnit XML, and either the rows, with the table of counts if
+/// instructions were counted, or the reason why not all rows were shown and written.
 #[derive(Drop)]
 pub(crate) struct ShownRun {
     pub(crate) texts: Vec<Option<Vec<u8>>>,
@@ -137,7 +137,7 @@ impl<'x, R: Threads + Wait + Sync + Clock, D: Inputs> ListRun<'x, R, D> {
         (stream, sink, ShownRun { texts, ran })
     }
 
-    // Returns the progress line of the run, which counts its finished jobs.
+    // Returns the progress line of the run, which counts the jobs that have finished.
     fn run_progress<'m, P: Write + Drop>(
         &self,
         planned: &PlannedRun<'m>,
@@ -161,7 +161,7 @@ impl<'x, R: Threads + Wait + Sync + Clock, D: Inputs> ListRun<'x, R, D> {
         )
     }
 
-    // Returns an observer of the rows that stores the texts of failures, if the JUnit document needs them.
+    // Returns an observer of the rows that stores the texts of failures if the JUnit XML needs them.
     fn failure_texts<'m, K: StreamSpec>(&self, reporter: &TextReporter<'m>) -> FailureTexts<'m, K>
         requires judging { judge_view reporter.now.judge ≡ K.judge }
         requires stores_texts { stores_failure_texts self.now.args.now reporter.now.verbosity ≡ K.keeps_failure_texts }
@@ -175,7 +175,7 @@ impl<'x, R: Threads + Wait + Sync + Clock, D: Inputs> ListRun<'x, R, D> {
     }
 }
 
-// Returns whether the instructions are counted in the run that is shown: counts with call stacks need another run.
+// Whether the run that is shown also counts instructions. Counts with call stacks need another run.
 fn are_counted_in_run(args: &RunArgs<'_>) -> bool
     ensures { result ≡ is_some args.now.counts && not args.now.stacks }
 {

@@ -1,4 +1,4 @@
-//! What `cover` and `profile` have in common: jobs run or have been counted, and a view of their images is shown.
+//! What `cover` and `profile` have in common: they show a view of the images of jobs, from the counts of a run or of a table.
 
 ghost use Rattle.std.specs.Prelude.{◌≡◌, ◌⊎◌, ◌≤◌, IfErr, IfOk, length};
 ghost use Rattle.std.specs.List.Sorted.{IsStrictlyIncreasing};
@@ -26,12 +26,12 @@ use rvtest_cli::{ChoosingCommand, RunArgs};
 use std::sync::Wait;
 use std::thread::Threads;
 
-/// A view of images, made from a table of counts.
+/// A view of images, which is made from a table of counts.
 #[derive(Clone, Copy)]
 pub(crate) enum View {
-    /// The coverage: which instructions were executed.
+    /// The code coverage: which instructions were executed.
     Cover {
-        /// Whether it is CSV, for tools.
+        /// Whether it is written as CSV instead of text.
         csv: bool,
     },
     /// The profile: in which functions the steps were spent.
@@ -47,8 +47,8 @@ pub(crate) struct JobsView<'x, R, D> {
 }
 
 impl<'x, R: Threads + Wait + Sync, D: Inputs> JobsView<'x, R, D> {
-    /// Writes the coverage or the profile of the requested jobs, from a run or from a table of counts. The status is 0. If the arguments
-    /// are rejected, the error shows the usage of `command`.
+    /// Writes the coverage or the profile of the requested jobs, from the counts of a run or of a table. The status is 0. If the arguments
+    /// are rejected, the message shows the usage of `command`.
     pub(crate) fn write_view<F: Outputs + Drop, O: Sink + Drop, E: Sink + Drop>(
         &self,
         command: ChoosingCommand,
@@ -79,7 +79,7 @@ impl<'x, R: Threads + Wait + Sync, D: Inputs> JobsView<'x, R, D> {
         }
     }
 
-    // Writes the notes about missing images and refused jobs, and then the view of the selected jobs.
+    // Writes the notes about missing images and refused jobs to standard error, and then the view of the selected jobs.
     fn write_selected<F: Outputs + Drop, O: Sink + Drop, E: Sink + Drop>(
         &self,
         jobs: JobList,
@@ -123,7 +123,7 @@ impl<'x, R: Threads + Wait + Sync, D: Inputs> JobsView<'x, R, D> {
 }
 
 impl<'x, R, D> JobsView<'x, R, D> {
-    // Returns the view of these images, computed from a table of counts.
+    // Returns the view of these images, from a table of counts.
     fn view_of_table(&self, table: &CountTable, images: &[ImageFile<'_>]) -> Result<Vec<u8>, Stop>
         requires { IsValidTable table.now }
         ensures shown { IfOk result (λ text. IsViewText self.now.view table.now (images_of_files images.now) text.items) }
@@ -140,7 +140,7 @@ impl<'x, R, D> JobsView<'x, R, D> {
     }
 }
 
-// Returns the path that a message about counts names: the path of the table, or else the path of the list.
+// Returns the path to which a message about counts refers: the path of the table, or else the path of the list.
 fn counts_source<'a>(args: &RunArgs<'a>) -> &'a str
     ensures { result.now ≡ counts_source args.now }
 {

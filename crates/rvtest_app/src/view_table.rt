@@ -1,4 +1,4 @@
-//! The counts for a view of the images of jobs: those of a run of the jobs, or those of a table in the arguments.
+//! The table of counts for a view: of a run of the jobs, or at a path in the arguments.
 
 ghost use Rattle.std.specs.Prelude.{◌≡◌, IfErr, IfOk, None};
 ghost use Rattle.std.specs.List.Sorted.{IsStrictlyIncreasing};
@@ -30,8 +30,8 @@ use std::sync::Wait;
 use std::thread::Threads;
 
 impl<'x, R: Threads + Wait + Sync, D: Inputs> JobsView<'x, R, D> {
-    /// Returns the table for the view: the table at the path in the arguments, or without a path the counts of a run of the jobs at these
-    /// indices.
+    /// Returns the table of counts for the view: the table at the path in the arguments, or without a path the counts of a run of the jobs
+    /// at these indices.
     pub(crate) fn table_for_images(
         &self,
         plan: &Plan,
@@ -68,8 +68,8 @@ impl<'x, R: Threads + Wait + Sync, D: Inputs> JobsView<'x, R, D> {
         }
     }
 
-    // Reads the table at the path. Returns an error if it lacks the counts that the view needs, or counted an image that is not one of
-    // `images`.
+    // Reads the table of counts at the path. Returns an error if it has counts of an image that is not one of `images`, or lacks the counts
+    // that the view needs.
     fn read_matching_table(&self, path: &str, images: &[ImageFile<'_>]) -> Result<CountTable, Stop>
         ensures table { IfOk result (IsMatchingTableAt (D.contents self.now.host.now.inputs.now) self.now.view path.now
             (images_of_files images.now)) }
@@ -101,7 +101,7 @@ fn counts_of_jobs<R: Threads + Wait + Sync, D>(
     count_batch(&crew, &Batch::new(plan, indices))
 }
 
-// Runs the jobs at these indices, and returns their counts with the call stacks.
+// Runs the jobs at these indices, and returns their counts with call stacks.
 fn counts_with_stacks_of_jobs<R: Threads + Wait + Sync, D>(
     host: &Host<'_, R, D>,
     args: &RunArgs<'_>,
@@ -120,7 +120,7 @@ fn counts_with_stacks_of_jobs<R: Threads + Wait + Sync, D>(
     }
 }
 
-// Reads the table at the path. Returns an error if it counted an image that is not one of `images`.
+// Reads the table of counts at the path. Returns an error if it has counts of an image that is not one of `images`.
 fn read_table_for_images<D: Inputs>(
     inputs: &D,
     alloc: Global,
@@ -139,7 +139,7 @@ fn read_table_for_images<D: Inputs>(
     }
 }
 
-// Whether the table has the counts that the view needs: call stacks for a profile, and any counts for coverage.
+// Whether the table has the counts that the view needs: a profile needs call stacks, while any table will do for coverage.
 fn has_counts_for(view: View, table: &CountTable) -> bool
     ensures { result ≡ has_counts_for view table.now }
 {
@@ -149,7 +149,7 @@ fn has_counts_for(view: View, table: &CountTable) -> bool
     }
 }
 
-// Returns the message that the table at `table_path` has counts of another image at `path` than the selected jobs use.
+// Returns the message that the table at `table_path` has counts of an image at `path` that differs from the one the selected jobs use.
 fn other_image_message<'a>(
     alloc: Global,
     table_path: &'a str,
@@ -169,7 +169,7 @@ fn other_image_message<'a>(
     )
 }
 
-// Returns the message that the table at the path has no call stacks, and how to write a table with call stacks.
+// Returns the message that the table at the path has no call stacks, with the command that writes such a table.
 fn no_stacks_message(alloc: Global, path: &str) -> Result<Vec<u8>, AllocError>
     ensures { IfOk result (λ text. text.items ≡ no_stacks_message path.now) }
 {

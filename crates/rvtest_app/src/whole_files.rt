@@ -1,4 +1,4 @@
-//! The files of a whole report whose rows are known only by their text.
+//! Writing a report of a whole list when only the rows are known.
 
 ghost use Rattle.std.specs.Prelude.{◌≡◌, ◌++◌, [], ℕ, List, Option, IfErr, OnErr, OnOk, Some};
 ghost use Rattle.std.specs.Io.KnownBytes.{Appends};
@@ -20,7 +20,7 @@ use rv_junit::Suite;
 use rv_rows::Rows;
 use std::alloc::Global;
 
-/// Writes the report of all rows and their JUnit XML to their outlets, and then moves the files to their paths.
+/// Writes a report of all rows and their JUnit XML to their outlets, and then moves the files to their paths.
 pub(crate) fn write_whole_files<F: Outputs + Drop, O: Sink + Drop, E: Sink + Drop>(
     alloc: Global,
     destinations: &mut Destinations<F, O, E>,

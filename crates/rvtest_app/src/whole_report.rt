@@ -1,4 +1,4 @@
-//! The whole report of a list into which a run merges its rows.
+//! The report that a run with `--into` updates, which must be of the whole list.
 
 ghost use Rattle.std.specs.Prelude.{◌≡◌, ◌≤◌, IfErr, IfOk, IfSome, None, length};
 ghost use Rattle.rv_files.specs.Limits.{max_jobs};
@@ -16,15 +16,15 @@ use std::alloc::{AllocError, Global};
 /// Why a report is not a report of all jobs of a list.
 #[derive(Clone, Copy)]
 pub(crate) enum NotWholeReason<'a> {
-    /// It has only this many rows, of a list of this many jobs.
+    /// It is a partial report, with so many rows of a list with so many jobs.
     Partial(usize, u32),
-    /// It has this many rows, but the list has this many jobs.
+    /// It has so many rows (first) but the list has so many jobs (second).
     RowCount(usize, usize),
-    /// A row has another name than the job of the list.
+    /// A row has a different name than the job of the list at the same index.
     Name(NameMismatch<'a>),
 }
 
-/// The number of a job, counted from 1, its name in the report, and its name in the list.
+/// The number of a job, counted from 1, and its names in the report and in the list.
 #[derive(Clone, Copy)]
 pub(crate) struct NameMismatch<'a> {
     pub(crate) number: usize,
@@ -53,7 +53,7 @@ pub(crate) fn read_whole_report<D: Inputs>(
     }
 }
 
-// Returns the reason why a report is not a report of all jobs of a list; `None` if it is one.
+// Returns why a report is not a report of all jobs of a list; `None` if it is one.
 fn not_whole_reason<'a>(report: &'a SavedReport, jobs: &'a [Job]) -> Option<NotWholeReason<'a>>
     requires at_most_max { length report.now.rows ≤ max_jobs }
     ensures whole { result ≡ None → IsWholeReport jobs.now report.now }
@@ -83,7 +83,7 @@ fn jobs_of_partial_report(extent: &Extent) -> Option<u32>
     }
 }
 
-// Returns the first index at which the row and the job have different names, with both names; `None` if all names agree.
+// Returns the names and the number of the first job whose name in the report differs from its name in the list; `None` if all names agree.
 fn first_name_mismatch<'a>(rows: &'a [Row], jobs: &'a [Job]) -> Option<NameMismatch<'a>>
     requires { length rows.now ≡ length jobs.now }
     ensures same { result ≡ None → row_names rows.now ≡ job_names jobs.now }
@@ -120,7 +120,7 @@ fn not_whole_message<'a>(
     }
 }
 
-// Returns the message that the report at the path has only `rows` rows of a list with `jobs` jobs.
+// Returns the message that the report at the path is a partial one, with `rows` rows of a list with `jobs` jobs.
 fn partial_report_message<'a>(
     alloc: Global,
     path: &'a str,

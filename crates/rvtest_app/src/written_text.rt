@@ -1,4 +1,4 @@
-//! A text that a command writes to a file, or to standard output.
+//! Writing a text to a file or to standard output.
 
 ghost use Rattle.std.specs.Prelude.{◌≡◌, ◌⊎◌, ◌∷◌, [], ℕ, List, None, Option, IfErr, IfSome, OnErr, OnOk, Some, true};
 ghost use Rattle.rv_command.specs.Texts.{optional_text};
@@ -15,7 +15,7 @@ use rv_command::{Stop, file_error_stop, write_results};
 use rv_files::{LastError, Outputs, Sink, put_all};
 use std::alloc::Global;
 
-/// Writes a text to the file at a path, or to standard output if there is no path or it is `-`.
+/// Writes a text to the file at a path, or to standard output if the path is `-` or not given.
 pub(crate) fn write_text<F: Outputs + Drop, O: Sink + Drop, E: Sink + Drop>(
     alloc: Global,
     destinations: &mut Destinations<F, O, E>,
@@ -53,7 +53,7 @@ fn write_text_at<F: Outputs + Drop, O: Sink + Drop, E: Sink + Drop>(
     }
 }
 
-/// Writes a file completely: it appears only when all bytes are written, and after an error the old file is unchanged.
+/// Writes a file: it is at its path only when it is complete, and after an error an old file at the path is unchanged.
 pub(crate) fn write_file<F: Outputs>(
     files: &mut F,
     alloc: Global,
@@ -80,7 +80,7 @@ pub(crate) fn write_file<F: Outputs>(
     }
 }
 
-/// Writes all bytes to an open file, and moves it to its path. After an error the file is not created.
+/// Writes all bytes to an open file, and moves it to its path. After an error it does not appear there.
 pub(crate) fn finish_file<F: Outputs>(
     files: &mut F,
     alloc: Global,
@@ -118,7 +118,8 @@ pub(crate) fn finish_file<F: Outputs>(
     }
 }
 
-/// Writes a text to an open and still empty outlet, and moves its file to its path. After an error the file is not created.
+/// Writes a text to an open outlet that is still empty, and moves the file, if it is one, to its path. After an error the file does not
+/// appear there.
 pub(crate) fn write_to_outlet<F: Outputs + Drop, O: Sink + Drop, E: Sink + Drop>(
     alloc: Global,
     destinations: &mut Destinations<F, O, E>,

@@ -1,4 +1,4 @@
--- The requests that the command line of rvtest makes, and the errors in its arguments.
+-- The requests that the arguments of rvtest make, and the errors in the arguments.
 use Rattle.std.specs.Prelude.{◌≡◌, ◌≤◌, ◌&&◌, ◌||◌, ℕ, Bool, not, List, [], ◌∷◌, Option}
 use Rattle.std.specs.Prelude.{Some, None, IfOk, IfSome, MatchResult, Result, map, false, string_bytes}
 use Rattle.std.specs.Prelude.{codes, option_map, option_and_then}
@@ -31,33 +31,33 @@ use Rattle.std.specs.Borrow.{Bor}
 
 -- ---- the requests
 
--- the arguments of `run`; the requests of `list`, `accept`, `cover` and `profile` use them, too
+-- the arguments of `run`; `list`, `accept`, `cover` and `profile` use the same record
 pub record RunOptions : Type 0 where
   -- the path of the job list
   pub list : Text
-  -- the names of the jobs to run, from `--only`
+  -- the names of jobs to choose, from `--only`
   pub only : List Text
   -- the regular expression of `--match`
   pub pattern : Option Text
   -- the regular expression of `--exclude`
   pub exclude : Option Text
-  -- the path of the report whose failed jobs are run
+  -- the path of the report whose failed jobs are chosen
   pub failed : Option Text
-  -- whether the report of `--failed` may be truncated
+  -- whether the report of `--failed` can be truncated
   pub partial : Bool
   -- the shard to run, as `K/N`
   pub shard : Option Text
-  -- the text that identifies the run that the shard belongs to
+  -- the stamp of the run to which the shard belongs
   pub stamp : Option Text
-  -- the largest number of threads; none for one per processor
+  -- the maximum number of threads; `None` for one per processor
   pub workers : Option ℕ
-  -- the number of jobs in a chunk
+  -- the number of consecutive jobs that a thread claims at once
   pub group : ℕ
   -- the step budget that overrides each job's own
   pub budget : Option ℕ
   -- the directory against which relative paths in the list are resolved
   pub root : Option Text
-  -- the path of the report of the whole list that the rows update
+  -- the path of a report of the whole list, which is updated with the rows of this run
   pub into : Option Text
   -- the path of the report to write
   pub report : Option Text
@@ -65,26 +65,26 @@ pub record RunOptions : Type 0 where
   pub junit : Option Text
   -- the name of the JUnit suite
   pub suite : Option Text
-  -- whether only unmet expectations are failures
+  -- whether only unmet expectations count as failures, and no other ends
   pub lenient : Bool
-  -- the path of the table of counts: to write for `run`, to read for `cover` and `profile`
+  -- the path of a table of counts: `run` writes it; `cover` and `profile` read it
   pub counts : Option Text
-  -- whether the table of counts has call stacks, too
+  -- whether to count call stacks, too
   pub stacks : Bool
-  -- the path of the file that lists the jobs that are known to fail
+  -- the path of the file that lists the jobs known to fail
   pub known : Option Text
   -- the number of failures after which the run stops
   pub stop_after : Option ℕ
-  -- whether passing jobs are shown, too
+  -- whether to show the jobs that pass, too
   pub verbose : Bool
-  -- whether only the last line is shown
+  -- whether to show only the last line
   pub quiet : Bool
-  -- how many last instructions of each failed job are shown
+  -- how many last instructions of each failed job to show
   pub last : Option ℕ
   -- the value of `--color`: `always`, `never` or `auto`
   pub color : Option Text
 
--- the arguments of `explain`: a job of a list, and how many of its last instructions are shown
+-- the arguments of `explain`: the job to explain, and how many of its last instructions to show
 pub record ExplainOptions : Type 0 where
   pub list : Text
   pub name : Text
@@ -93,7 +93,7 @@ pub record ExplainOptions : Type 0 where
   pub root : Option Text
   pub color : Option Text
 
--- the arguments of `merge`: the paths of the parts, and where the merged report and the JUnit XML are written
+-- the arguments of `merge`: the paths of the parts, and where to write the merged report and the JUnit XML
 pub record MergeOptions : Type 0 where
   pub parts : List Text
   pub report : Option Text
@@ -101,7 +101,7 @@ pub record MergeOptions : Type 0 where
   pub suite : Option Text
   pub lenient : Bool
 
--- the arguments of `show`: the path of a report, and where the JUnit XML is written
+-- the arguments of `show`: the path of a report, and where to write the JUnit XML
 pub record ShowOptions : Type 0 where
   pub report : Text
   pub partial : Bool
@@ -110,26 +110,26 @@ pub record ShowOptions : Type 0 where
   pub lenient : Bool
   pub color : Option Text
 
--- the arguments of `diff`: the paths of two reports, and what it compares
+-- the arguments of `diff`: the paths of two reports, and what to compare
 pub record DiffOptions : Type 0 where
   pub old : Text
   pub new : Text
-  -- whether a report may be truncated
+  -- whether the reports can be truncated
   pub partial : Bool
-  -- whether different steps, fault locations and fault values are reported, too
+  -- whether to report different steps, fault locations and fault values, too
   pub steps : Bool
   -- if set, jobs that take over this many percent more steps are reported, too
   pub slower : Option ℕ
   pub color : Option Text
 
--- the arguments of `accept`: the arguments that choose the jobs, and which changes are written
+-- the arguments of `accept`: the jobs to run, and which changes to write
 pub record AcceptOptions : Type 0 where
   pub run : RunOptions
-  -- whether a different exit code or kind of fault is accepted, too
+  -- whether to accept a different exit code or kind of fault, too
   pub ends : Bool
-  -- whether changes are only reported, and nothing is written
+  -- whether to report the changes without writing anything
   pub check : Bool
-  -- whether golden files outside of the list's directory, or of the `--root` directory, are written, too
+  -- whether to write golden files outside of the list's directory, or of the `--root` directory, too
   pub outside : Bool
 
 -- the arguments of `counts`: the paths of the tables to add up, and the path of the sum
@@ -137,31 +137,31 @@ pub record CountsOptions : Type 0 where
   pub tables : List Text
   pub out : Option Text
 
--- the arguments of `cover`; if `run` has a counts path, that table is read instead of running the jobs
+-- the arguments of `cover`; if `run.counts` is set, that table is read and no job is run
 pub record CoverOptions : Type 0 where
   pub run : RunOptions
-  -- whether the output is CSV
+  -- whether to write CSV
   pub csv : Bool
 
--- the arguments of `profile`; if `run` has a counts path, that table is read instead of running the jobs
+-- the arguments of `profile`; if `run.counts` is set, that table is read and no job is run
 pub record ProfileOptions : Type 0 where
   pub run : RunOptions
-  -- how many functions of each image are shown; none for all
+  -- how many functions of each image to show; `None` for all
   pub top : Option ℕ
-  -- whether the output is CSV
+  -- whether to write CSV
   pub csv : Bool
 
--- a parsed command line: a command with its arguments
+-- what the arguments request: a command with its arguments
 pub data Words : Type 0 where
   run : RunOptions → Words
-  -- `list` lists the jobs that `run` would run with these arguments
+  -- `list`, which lists the jobs that `run` would run with these arguments
   names : RunOptions → Words
   explain : ExplainOptions → Words
-  -- `console` of a list, a job's name, and the directory of `--root`
+  -- `console` with a list, the name of a job, and the directory of `--root`
   console : Text → Text → Option Text → Words
-  -- `gdb` of a list, a job's name, the directory of `--root`, and the megabytes of `--memory`
+  -- `gdb` with a list, the name of a job, the directory of `--root`, and the megabytes of `--memory`
   gdb : Text → Text → Option Text → Option ℕ → Words
-  -- `check` of a list and the directory of `--root`
+  -- `check` with a list and the directory of `--root`
   check : Text → Option Text → Words
   accept : AcceptOptions → Words
   merge : MergeOptions → Words
@@ -170,15 +170,15 @@ pub data Words : Type 0 where
   counts : CountsOptions → Words
   cover : CoverOptions → Words
   profile : ProfileOptions → Words
-  -- `help` for a topic that is not a command
+  -- `help` with a topic other than a command
   help : Text → Words
 
--- the value of `--budget` among the matches of `clap`, which overrides each job's own budget; `None` without this option
+-- the value of `--budget` in the matches of `clap`, which overrides each job's own budget, or `None` if it is not given
 abbrev pub requested_budget : List Row → Option ℕ
 requested_budget rows = number_value (codes "budget") 1 max_budget rows
 
--- the arguments of a command that runs jobs of `list` in chunks of `group` jobs, taken from the matches of `clap`; an option that is not
--- given, or that the command does not have, is unset
+-- the arguments of a command that runs jobs of `list`, of which a thread claims `group` at once; the other arguments are in the matches of
+-- `clap`; an option is not set if it is not given or the command does not have it
 unfoldable pub run_options : Text → ℕ → List Row → RunOptions
 run_options list group rows = record {
   list = list;
@@ -208,17 +208,17 @@ run_options list group rows = record {
   color = first_of (codes "color") rows;
 }
 
--- the request of `run` with these matches of `clap`; `None` without a list or a valid chunk size
+-- the request of `run` with these matches of `clap`, or `None` if the list is missing or `--group` is invalid
 abbrev pub rvtest_run_request : List Row → Option Words
 rvtest_run_request rows = option_and_then (λ list. option_map (λ group. run (run_options list group rows))
     (number_value (codes "group") 1 max_group rows)) (first_of (codes "list") rows)
 
--- the request of `list` with these matches of `clap`; `None` without a list
+-- the request of `list` with these matches of `clap`, or `None` if the list is missing
 abbrev pub list_request : List Row → Option Words
 list_request rows = option_map (λ list. names (run_options list 1 rows)) (first_of (codes "list") rows)
 
--- the request of `explain` for the job `name` of `list`, showing its `last` last instructions; its other options are taken from the matches
--- of `clap`
+-- the request of `explain` for the job `name` of `list`, with its `last` last instructions; the other arguments are in the matches of
+-- `clap`
 abbrev pub explain_request_of : Text → Text → List Row → ℕ → Words
 explain_request_of list name rows last = explain (record {
   list = list;
@@ -229,29 +229,29 @@ explain_request_of list name rows last = explain (record {
   color = first_of (codes "color") rows;
 })
 
--- the request of `explain` with these matches of `clap`; none without a list, a job's name or a valid `--last`
+-- the request of `explain` with these matches of `clap`, or `None` if the list or the name is missing or `--last` is invalid
 abbrev pub explain_request : List Row → Option Words
 explain_request rows = option_and_then (λ list. option_and_then (λ name.
     option_map (explain_request_of list name rows) (number_value (codes "last") 0 max_last_instructions rows))
     (first_of (codes "name") rows)) (first_of (codes "list") rows)
 
--- the request of `console` with these matches of `clap`; none without a list or a job's name
+-- the request of `console` with these matches of `clap`, or `None` if the list or the name is missing
 abbrev pub console_request : List Row → Option Words
 console_request rows = option_and_then (λ list. option_map (λ name. console list name (first_of (codes "root") rows))
     (first_of (codes "name") rows)) (first_of (codes "list") rows)
 
--- the request of `gdb` with these matches of `clap`; none without a list or a job's name
+-- the request of `gdb` with these matches of `clap`, or `None` if the list or the name is missing
 abbrev pub gdb_request : List Row → Option Words
 gdb_request rows = option_and_then (λ list. option_map (λ name.
     gdb list name (first_of (codes "root") rows) (number_value (codes "memory") 64 4096 rows))
     (first_of (codes "name") rows)) (first_of (codes "list") rows)
 
--- the request of `check` with these matches of `clap`; none without a list
+-- the request of `check` with these matches of `clap`, or `None` if the list is missing
 abbrev pub check_request : List Row → Option Words
 check_request rows = option_map (λ list. check list (first_of (codes "root") rows))
     (first_of (codes "list") rows)
 
--- the request of `accept` for `list`, in chunks of `group` jobs; its options are taken from the matches of `clap`
+-- the request of `accept` for `list`, of which a thread claims `group` jobs at once; the other arguments are in the matches of `clap`
 abbrev pub accept_request_of : Text → List Row → ℕ → Words
 accept_request_of list rows group = accept (record {
   run = run_options list group rows;
@@ -260,7 +260,7 @@ accept_request_of list rows group = accept (record {
   outside = is_flag_set (codes "outside") rows;
 })
 
--- the request of `accept` with these matches of `clap`; none without a list or a valid chunk size
+-- the request of `accept` with these matches of `clap`, or `None` if the list is missing or `--group` is invalid
 abbrev pub accept_request : List Row → Option Words
 accept_request rows = option_and_then (λ list. option_map (accept_request_of list rows)
     (number_value (codes "group") 1 max_group rows)) (first_of (codes "list") rows)
@@ -275,7 +275,7 @@ merge_request rows = merge (record {
   lenient = is_flag_set (codes "lenient") rows;
 })
 
--- the request of `diff` for the reports `old` and `new`; its options are taken from the matches of `clap`
+-- the request of `diff` for the reports `old` and `new`; the other arguments are in the matches of `clap`
 abbrev pub diff_request_of : List Row → Text → Text → Words
 diff_request_of rows old new = diff (record {
   old = old;
@@ -286,12 +286,12 @@ diff_request_of rows old new = diff (record {
   color = first_of (codes "color") rows;
 })
 
--- the request of `diff` with these matches of `clap`; none without two reports
+-- the request of `diff` with these matches of `clap`, or `None` if a report is missing
 abbrev pub diff_request : List Row → Option Words
 diff_request rows = option_and_then (λ old. option_map (diff_request_of rows old)
     (first_of (codes "new") rows)) (first_of (codes "old") rows)
 
--- the request of `show` for `report`; its options are taken from the matches of `clap`
+-- the request of `show` for `report`; the other arguments are in the matches of `clap`
 abbrev pub show_request_of : List Row → Text → Words
 show_request_of rows report = show (record {
   report = report;
@@ -302,7 +302,7 @@ show_request_of rows report = show (record {
   color = first_of (codes "color") rows;
 })
 
--- the request of `show` with these matches of `clap`; none without a report
+-- the request of `show` with these matches of `clap`, or `None` if the report is missing
 abbrev pub show_request : List Row → Option Words
 show_request rows = option_map (show_request_of rows) (first_of (codes "report") rows)
 
@@ -313,24 +313,24 @@ counts_request rows = counts (record {
   out = first_of (codes "out") rows;
 })
 
--- the request of `cover` for `list`, in chunks of `group` jobs; its options are taken from the matches of `clap`
+-- the request of `cover` for `list`, of which a thread claims `group` jobs at once; the other arguments are in the matches of `clap`
 abbrev pub cover_request_of : Text → List Row → ℕ → Words
 cover_request_of list rows group = cover (record { run = run_options list group rows; csv = is_flag_set (codes "csv") rows })
 
--- the request of `cover` with these matches of `clap`; none without a list or a valid chunk size
+-- the request of `cover` with these matches of `clap`, or `None` if the list is missing or `--group` is invalid
 abbrev pub cover_request : List Row → Option Words
 cover_request rows = option_and_then (λ list. option_map (cover_request_of list rows)
     (number_value (codes "group") 1 max_group rows)) (first_of (codes "list") rows)
 
--- the names of the jobs to show: the argument NAME if it is given, and otherwise the values of `--only`
+-- the names of the jobs to choose: NAME if it is given, and otherwise the values of `--only`
 abbrev pub chosen_names : List Row → List Text
 chosen_names rows = if is_option_given (codes "name") rows then argument_values (codes "name") rows else argument_values (codes "only") rows
 
--- the arguments that `run_options` returns, but with the argument NAME as the only chosen name if NAME is given
+-- the arguments that `run_options` returns, with NAME as the only name of a job to choose if it is given
 abbrev pub named_run_options : Text → ℕ → List Row → RunOptions
 named_run_options list group rows = record (run_options list group rows) { only = chosen_names rows }
 
--- the request of `profile` for `list`, in chunks of `group` jobs; its options are taken from the matches of `clap`
+-- the request of `profile` for `list`, of which a thread claims `group` jobs at once; the other arguments are in the matches of `clap`
 abbrev pub profile_request_of : Text → List Row → ℕ → Words
 profile_request_of list rows group = profile (record {
   run = named_run_options list group rows;
@@ -338,16 +338,16 @@ profile_request_of list rows group = profile (record {
   csv = is_flag_set (codes "csv") rows;
 })
 
--- the request of `profile` with these matches of `clap`; none without a list or a valid chunk size
+-- the request of `profile` with these matches of `clap`, or `None` if the list is missing or `--group` is invalid
 abbrev pub profile_request : List Row → Option Words
 profile_request rows = option_and_then (λ list. option_map (profile_request_of list rows)
     (number_value (codes "group") 1 max_group rows)) (first_of (codes "list") rows)
 
--- the request of `help` with these matches of `clap`; none without a topic
+-- the request of `help` with these matches of `clap`, or `None` if the topic is missing
 abbrev pub help_request : List Row → Option Words
 help_request rows = option_map help (first_of (codes "topic") rows)
 
--- the request of the subcommand `name` with these matches of `clap`; none if a required argument is missing
+-- the request of the subcommand `name` with these matches of `clap`, or `None` if an argument is missing or invalid
 abbrev pub subcommand_request : Text → List Row → Option Words
 subcommand_request name rows = if bytes_eq name (codes "run") then rvtest_run_request rows
     else if bytes_eq name (codes "list") then list_request rows
@@ -365,7 +365,8 @@ subcommand_request name rows = if bytes_eq name (codes "run") then rvtest_run_re
     else if bytes_eq name (codes "help") then help_request rows
     else None
 
--- the request of the matched subcommand with its matches of `clap`; `None` without a subcommand, or if a required argument is missing
+-- the request of the subcommand that `clap` matched, with its matches, or `None` if there is no subcommand, or an argument is missing or
+-- invalid
 abbrev pub matched_request : Option (Text × List Row) → Option Words
 matched_request = option_and_then (λ found. subcommand_request found.0 found.1)
 
@@ -380,7 +381,7 @@ abbrev pub is_command_help : Text → Text → Bool
 is_command_help word topic = is_help word && (not (bytes_eq topic (codes "keys"))
     && (not (bytes_eq topic (codes "--help")) && not (bytes_eq topic (codes "-h"))))
 
--- the arguments that `clap` gets instead: `--help` for `rvtest help`, and `COMMAND --help` for `rvtest help COMMAND`; `None` for any other
+-- the arguments that are given to `clap` instead: `--help` for `help`, and `COMMAND --help` for `help COMMAND`; `None` for any other
 -- arguments
 unfoldable pub help_command_args : List Text → Option (List Text)
 help_command_args (program ∷ word ∷ []) = if is_help word then Some (program ∷ codes "--help" ∷ []) else None
@@ -388,29 +389,29 @@ help_command_args (program ∷ word ∷ topic ∷ []) =
     if is_command_help word topic then Some (program ∷ topic ∷ codes "--help" ∷ []) else None
 help_command_args args = None
 
--- the arguments that `clap` gets: `--help` instead of `help`, `COMMAND --help` instead of `help COMMAND`, and any others unchanged
+-- the arguments that are given to `clap`: `--help` instead of `help`, `COMMAND --help` instead of `help COMMAND`, and any others unchanged
 abbrev pub args_for_clap : List Text → List Text
 args_for_clap args = option_map_or (λ help. help) (help_command_args args) args
 
--- the subcommand that `clap` matches in these arguments, with its matches; `None` if there is none, and for `help` and `help COMMAND`
+-- the subcommand that `clap` matches in the arguments, with its matches; `None` if there is none, and for `help` and `help COMMAND`
 abbrev pub requested_subcommand : List Text → Option (Text × List Row)
 requested_subcommand args = option_map_or (λ help. None) (help_command_args args) (subcommand_of rvtest_full_app args)
 
--- the request that these arguments make; `None` if they make none
+-- the request that the arguments make, or `None` if they make none
 abbrev pub request_of_args : List Text → Option Words
 request_of_args args = matched_request (requested_subcommand args)
 
 -- ---- misused options
 
--- whether a value of `--color` is valid: `always`, `never` or `auto`
+-- whether this is a valid value of `--color`: `always`, `never` or `auto`
 abbrev pub is_color_value : Text → Bool
 is_color_value word = bytes_eq word (codes "always") || (bytes_eq word (codes "never") || bytes_eq word (codes "auto"))
 
--- whether the value of `--color` is given and invalid
+-- whether `--color` is given with an invalid value
 abbrev pub is_color_unknown : List Row → Bool
 is_color_unknown rows = option_map_or (λ word. not (is_color_value word)) (first_of (codes "color") rows) false
 
--- the misuse that the value of `--color` is invalid; `None` if it is valid or not given
+-- the misuse of `--color` with an invalid value, or `None` if there is none
 abbrev pub color_misuse : List Row → Option Misuse
 color_misuse rows = if is_color_unknown rows then Some misuse.UnknownColor else None
 
@@ -458,7 +459,7 @@ abbrev pub are_rows_saved : List Row → Bool
 are_rows_saved rows = is_report_given rows
     || (is_option_given (codes "junit") rows || is_option_given (codes "shard") rows)
 
--- whether `--into` is combined with `--report` or `--shard`, which would write the rows a second time
+-- whether `--into` is combined with `--report` or `--shard`, so that the rows would go to two reports
 abbrev pub are_rows_written_twice : List Row → Bool
 are_rows_written_twice rows = is_option_given (codes "into") rows
     && (is_option_given (codes "report") rows || is_option_given (codes "shard") rows)
@@ -467,7 +468,7 @@ are_rows_written_twice rows = is_option_given (codes "into") rows
 abbrev pub is_into_stdout : List Row → Bool
 is_into_stdout rows = is_into_path (codes "-") rows
 
--- whether `--report` and `--failed` name the same path, so that the new report would replace the old one and lose the rows of jobs that do
+-- whether `--report` and `--failed` have the same path, so that the new report would replace the old one and lose the rows of jobs that do
 -- not run
 abbrev pub is_failed_report_overwritten : List Row → Bool
 is_failed_report_overwritten rows = option_map_or (λ path. is_report_path path rows) (first_of (codes "failed") rows) false
@@ -476,26 +477,26 @@ is_failed_report_overwritten rows = option_map_or (λ path. is_report_path path 
 abbrev pub is_suite_empty : List Row → Bool
 is_suite_empty rows = option_map_or (λ name. bytes_eq name []) (first_of (codes "suite") rows) false
 
--- the misuse of `--suite`: it is given without `--junit`, or with an empty value; `None` if it is not misused
+-- the misuse of `--suite`, or `None` if there is none: it is given without `--junit`, or with an empty value
 abbrev pub suite_misuse : List Row → Option Misuse
 suite_misuse rows = if is_option_given (codes "suite") rows && not (is_option_given (codes "junit") rows)
     then Some misuse.SuiteAlone
     else if is_suite_empty rows then Some misuse.EmptySuite
     else None
 
--- the first misuse of the options for output files: `--junit` names the path of `--report` or of `--into`, or `--suite` is misused; `None`
--- if there is no misuse
+-- the first misuse of the options for output files, or `None` if there is none: `--junit` has the path of `--report` or `--into`, or
+-- `--suite` is misused
 abbrev pub files_misuse : List Row → Option Misuse
 files_misuse rows =
     if option_map_or (λ path. is_report_path path rows) (first_of (codes "junit") rows) false then Some misuse.ReportIsJunit
     else if option_map_or (λ path. is_into_path path rows) (first_of (codes "junit") rows) false
     then Some misuse.IntoIsJunit else suite_misuse rows
 
--- the misuse that `--partial` is given without `--failed`; `None` otherwise
+-- the misuse of `--partial` without `--failed`, or `None` if there is none
 abbrev pub choice_misuse : List Row → Option Misuse
 choice_misuse rows = if is_partial_alone rows then Some misuse.PartialAlone else None
 
--- the first misuse of the options of `run`, in the order in which they are checked here; `None` if there is no misuse
+-- the first misuse of the options of `run`, in this order, or `None` if there is none
 abbrev pub run_misuse : List Row → Option Misuse
 run_misuse rows = if is_flag_set (codes "verbose") rows && is_flag_set (codes "quiet") rows
     then Some misuse.VerboseAndQuiet
@@ -514,31 +515,31 @@ run_misuse rows = if is_flag_set (codes "verbose") rows && is_flag_set (codes "q
     else if are_counts_overwriting rows then Some misuse.CountsIsOther
     else files_misuse rows
 
--- the first misuse of the options of `cover`: `--shard` with an option that chooses jobs, or `--partial` without `--failed`; `None` if
--- there is no misuse
+-- the first misuse of the options of `cover`, or `None` if there is none: `--shard` with options that choose jobs, or `--partial` without
+-- `--failed`
 abbrev pub cover_misuse : List Row → Option Misuse
 cover_misuse rows = if is_option_given (codes "shard") rows && is_choice_given rows then Some misuse.ShardAndChoice
     else choice_misuse rows
 
--- whether the argument NAME is given together with an option that chooses jobs or with `--shard`
+-- whether NAME is given together with options that choose jobs, or with `--shard`
 abbrev pub is_name_combined_with_choice : List Row → Bool
 is_name_combined_with_choice rows = is_option_given (codes "name") rows && (is_choice_given rows || is_option_given (codes "shard") rows)
 
--- the first misuse of the options of `profile`: NAME with an option that chooses jobs or `--shard`, or a misuse that `cover` has, too;
--- `None` if there is no misuse
+-- the first misuse of the options of `profile`, or `None` if there is none: NAME with options that choose jobs or with `--shard`, or a
+-- misuse of the options of `cover`
 abbrev pub profile_misuse : List Row → Option Misuse
 profile_misuse rows = if is_name_combined_with_choice rows then Some misuse.NameAndChoice else cover_misuse rows
 
--- the first misuse of the options of `diff`: `--steps` with `--slower`, or an invalid `--color`; `None` if there is no misuse
+-- the first misuse of the options of `diff`, or `None` if there is none: `--steps` with `--slower`, or an invalid `--color`
 abbrev pub diff_misuse : List Row → Option Misuse
 diff_misuse rows = if is_flag_set (codes "steps") rows && is_option_given (codes "slower") rows
     then Some misuse.StepsAndSlower else color_misuse rows
 
--- the first misuse of the options of `show`: an invalid `--color`, or a misused `--suite`; `None` if there is no misuse
+-- the first misuse of the options of `show`, or `None` if there is none: an invalid `--color`, or a misused `--suite`
 abbrev pub show_misuse : List Row → Option Misuse
 show_misuse rows = if is_color_unknown rows then Some misuse.UnknownColor else suite_misuse rows
 
--- a list with the kind of `clap` error that reports this misuse; empty without a misuse
+-- the kind of error as which this misuse is reported, as a list; empty if there is no misuse
 abbrev pub misuse_kinds : Option Misuse → Kinds
 misuse_kinds None = []
 misuse_kinds (Some misuse.StampAlone) = kind.MissingRequiredArgument ∷ []
@@ -581,7 +582,7 @@ misuse_text misuse.IntoIsJunit =
 misuse_text misuse.CountsIsOther =
     codes "the argument '--counts <FILE>' cannot name the same file as '--report <FILE>', '--into <FILE>', '--junit <FILE>' or '--failed <REPORT>'"
 
--- the first misuse of the options of the subcommand `name` with these matches of `clap`; `None` if there is no misuse
+-- the first misuse of the options of the subcommand `name` with these matches of `clap`, or `None` if there is none
 abbrev pub subcommand_misuse : Text → List Row → Option Misuse
 subcommand_misuse name rows = if bytes_eq name (codes "run") then run_misuse rows
     else if bytes_eq name (codes "list") then choice_misuse rows
@@ -594,19 +595,20 @@ subcommand_misuse name rows = if bytes_eq name (codes "run") then run_misuse row
     else if bytes_eq name (codes "explain") then color_misuse rows
     else None
 
--- the first misuse of the options of the matched subcommand; `None` without a subcommand or a misuse
+-- the first misuse of the options of the subcommand that `clap` matched, or `None` if there is no subcommand or no misuse
 abbrev pub matched_misuse : Option (Text × List Row) → Option Misuse
 matched_misuse = option_and_then (λ met. subcommand_misuse met.0 met.1)
 
--- the first misuse of an option in arguments that `clap` gets unchanged; `None` if there is no misuse
+-- the first misuse of options in arguments that are given to `clap` unchanged, or `None` if there is none
 abbrev pub plain_misuse : List Text → Option Misuse
 plain_misuse args = matched_misuse (subcommand_of rvtest_full_app args)
 
--- the kinds of the errors in arguments that `clap` gets unchanged: the errors that `clap` finds, or else the misuse of an option
+-- the kinds of the errors in arguments that are given to `clap` unchanged: those that `clap` finds, or, if it finds none, the misuse of an
+-- option
 abbrev pub plain_error_kinds : List Text → Kinds
 plain_error_kinds args = or_else (fault_of rvtest_full_app args) (misuse_kinds (plain_misuse args))
 
--- the first misuse of an option in the arguments; `None` if there is no misuse, and for `help` and `help COMMAND`
+-- the first misuse of options in the arguments, or `None` if there is none, and for `help` and `help COMMAND`
 abbrev pub args_misuse : List Text → Option Misuse
 args_misuse args = matched_misuse (requested_subcommand args)
 
@@ -614,28 +616,28 @@ args_misuse args = matched_misuse (requested_subcommand args)
 abbrev pub args_errors : List Text → Kinds
 args_errors args = fault_of rvtest_full_app (args_for_clap args)
 
--- the kinds of the errors in the arguments: the errors that `clap` finds, or else the misuse of an option
+-- the kinds of the errors in the arguments: those that `clap` finds, or, if it finds none, the misuse of an option
 abbrev pub args_error_kinds : List Text → Kinds
 args_error_kinds args = or_else (args_errors args) (misuse_kinds (args_misuse args))
 
--- the error says that memory ran out, or it reports the given misuse, with its kind and its message; without a misuse, memory ran out
+-- memory ran out, or the error reports this misuse with its kind and its message
 abbrev pub IsMisuseReported : Option Misuse → ArgsError → Type 0
 IsMisuseReported misuse error.OutOfMemory = Unit {0}
 IsMisuseReported None (error.Message fault text) = ⊥
 IsMisuseReported (Some misuse) (error.Message fault text) =
     (misuse_kinds (Some misuse) ≡ fault ∷ []) × IsUsageText (misuse_text misuse) (string_bytes text)
 
--- if the result is no error, there is no misuse; if it is an error, it reports the misuse, or memory ran out
+-- a result without an error requires that there is no misuse; an error reports the misuse, or memory ran out
 abbrev pub FailsByMisuse : {T : Type 0} → Option Misuse → Result T ArgsError → Type 0
 FailsByMisuse misuse result = MatchResult result (λ _. misuse ≡ None) (IsMisuseReported misuse)
 
--- ---- the Rust values of the requests
+-- ---- conversion of the code's types
 
--- the text that the reference points to; `None` if there is no reference
+-- the text that a reference points to, or `None` if there is no reference
 abbrev pub borrowed_text : Option (Bor Text) → Option Text
 borrowed_text text = option_map (λ t. t.now) text
 
--- the Rust value `RunArgs` as the record that contracts use, field by field
+-- the `RunArgs`, converted from the type of the code to the record that contracts use
 abbrev pub run_options_of_args : RunArgs → RunOptions
 run_options_of_args value = record {
   list = value.list.now;
@@ -665,7 +667,7 @@ run_options_of_args value = record {
   color = borrowed_text value.color;
 }
 
--- the Rust value `ExplainArgs` as the record that contracts use, field by field
+-- the `ExplainArgs`, converted from the type of the code to the record that contracts use
 abbrev pub explain_options_of_args : ExplainArgs → ExplainOptions
 explain_options_of_args value = record {
   list = value.list.now;
@@ -676,7 +678,7 @@ explain_options_of_args value = record {
   color = borrowed_text value.color;
 }
 
--- the Rust value `MergeArgs` as the record that contracts use, field by field
+-- the `MergeArgs`, converted from the type of the code to the record that contracts use
 abbrev pub merge_options_of_args : MergeArgs → MergeOptions
 merge_options_of_args value = record {
   parts = map (λ path. path.now) value.parts.items;
@@ -686,7 +688,7 @@ merge_options_of_args value = record {
   lenient = value.lenient;
 }
 
--- the Rust value `ShowArgs` as the record that contracts use, field by field
+-- the `ShowArgs`, converted from the type of the code to the record that contracts use
 abbrev pub show_options_of_args : ShowArgs → ShowOptions
 show_options_of_args value = record {
   report = value.report.now;
@@ -697,7 +699,7 @@ show_options_of_args value = record {
   color = borrowed_text value.color;
 }
 
--- the Rust value `DiffArgs` as the record that contracts use, field by field
+-- the `DiffArgs`, converted from the type of the code to the record that contracts use
 abbrev pub diff_options_of_args : DiffArgs → DiffOptions
 diff_options_of_args value = record {
   old = value.old.now;
@@ -708,14 +710,14 @@ diff_options_of_args value = record {
   color = borrowed_text value.color;
 }
 
--- the Rust value `CountsArgs` as the record that contracts use, field by field
+-- the `CountsArgs`, converted from the type of the code to the record that contracts use
 abbrev pub counts_options_of_args : CountsArgs → CountsOptions
 counts_options_of_args value = record {
   tables = map (λ path. path.now) value.tables.items;
   out = borrowed_text value.out;
 }
 
--- the Rust value `AcceptArgs` as the record that contracts use, field by field
+-- the `AcceptArgs`, converted from the type of the code to the record that contracts use
 abbrev pub accept_options_of_args : AcceptArgs → AcceptOptions
 accept_options_of_args value = record {
   run = run_options_of_args value.run;
@@ -724,15 +726,15 @@ accept_options_of_args value = record {
   outside = value.outside;
 }
 
--- the Rust value `CoverArgs` as the record that contracts use, field by field
+-- the `CoverArgs`, converted from the type of the code to the record that contracts use
 abbrev pub cover_options_of_args : CoverArgs → CoverOptions
 cover_options_of_args value = record { run = run_options_of_args value.run; csv = value.csv }
 
--- the Rust value `ProfileArgs` as the record that contracts use, field by field
+-- the `ProfileArgs`, converted from the type of the code to the record that contracts use
 abbrev pub profile_options_of_args : ProfileArgs → ProfileOptions
 profile_options_of_args value = record { run = run_options_of_args value.run; top = value.top; csv = value.csv }
 
--- the Rust value `Request` as the request that contracts use
+-- the `Request`, converted from the type of the code to the request that contracts use
 abbrev pub value_of_request : Request → Words
 value_of_request (request.Run value) = run (run_options_of_args value)
 value_of_request (request.List value) = names (run_options_of_args value)
@@ -749,7 +751,7 @@ value_of_request (request.Cover value) = cover (cover_options_of_args value)
 value_of_request (request.Profile value) = profile (profile_options_of_args value)
 value_of_request (request.Help value) = help value.topic.now
 
--- the budget is from 1 to `max_budget` steps, or is not given
+-- the budget is from 1 to `max_budget` steps, if it is given
 abbrev pub IsBudgetInRange : Option ℕ → Type 0
 IsBudgetInRange budget = IfSome budget (λ steps. (1 ≤ steps) × (steps ≤ max_budget))
 
@@ -770,11 +772,10 @@ IsRequestInRange (request.Explain value) = (value.last ≤ max_last_instructions
 IsRequestInRange (request.Diff value) = IfSome value.slower (λ percent. percent ≤ max_slower)
 IsRequestInRange _ = Unit {0}
 
--- the parsed request has the value `args`, and its numbers are within the ranges that the command line allows; without a request, `args`
--- is `None`
+-- `request` is the request `args`, and its numbers are within the ranges that the command line allows; it is `None` if `args` is
 abbrev pub IsRequestFor : Option Words → Option Request → Type 0
 IsRequestFor args request = (option_map value_of_request request ≡ args) × IfSome request IsRequestInRange
 
--- if the result is no error, it is the request `args`, and there is no misuse; if it is an error, it reports the misuse, or memory ran out
+-- a result without an error is the request `args`, and there is no misuse; an error reports the misuse, or memory ran out
 abbrev pub IsRequestRead : Option Words → Option Misuse → Result (Option Request) ArgsError → Type 0
 IsRequestRead args misuse result = IfOk result (IsRequestFor args) × FailsByMisuse misuse result

@@ -13,18 +13,18 @@ use Rattle.rvtest_cli.specs.declared.command.Subcommand.{Subcommand}
 use Rattle.rv_cli.specs.CommandBuilder.{option_rule, positional_rule}
 use Rattle.rv_cli.specs.RvfleetCommand.{group_rule}
 
--- the rule of an argument, changed so that the argument is repeatable: each use adds a value
+-- the rule of an argument that can be repeated: each use adds a value
 abbrev pub repeated_rule : Rule → Rule
 repeated_rule rule = record rule { action = Some Append }
 
--- the rule of the option `name`, whose value is an integer from `least` to `most`; `defaults` are its default values
+-- the rule of the option `name`, whose value is an integer from `least` to `most`, with these default values
 abbrev pub number_rule : Text → ℤ → ℤ → List (Bor Text) → Rule
 number_rule name least most defaults = record (option_rule name) {
   parser = Some (value_parser.Signed least most);
   defaults = map (λ text. text.now) defaults;
 }
 
--- the rule of the option `name`, whose value is a non-empty path of a file
+-- the rule of the option `name`, whose value is the path of a file and not empty
 abbrev pub file_rule : Text → Rule
 file_rule name = record (option_rule name) { parser = Some value_parser.NonEmptyString }
 
@@ -32,20 +32,20 @@ file_rule name = record (option_rule name) { parser = Some value_parser.NonEmpty
 abbrev pub flag_rule : Text → Rule
 flag_rule name = record (new_rule name) { long = Some name; action = Some SetTrue }
 
--- the rule of an argument, with a short option if its letter is given; unchanged otherwise
+-- the rule of an argument, with a short form if a letter is given
 abbrev pub with_letter : Rule → Option ℕ → Rule
 with_letter rule None = rule
 with_letter rule (Some letter) = record rule { short = Some letter }
 
--- the letter of the short option `-j`, for `--workers`
+-- the letter of `-j`, the short form of `--workers`
 abbrev pub workers_letter : ℕ
 workers_letter = 106
 
--- the letter of the short option `-q`, for `--quiet`
+-- the letter of `-q`, the short form of `--quiet`
 abbrev pub quiet_letter : ℕ
 quiet_letter = 113
 
--- the letter of the short option `-v`, for `--verbose`
+-- the letter of `-v`, the short form of `--verbose`
 abbrev pub verbose_letter : ℕ
 verbose_letter = 118
 
@@ -57,7 +57,7 @@ max_last_instructions = 100000
 abbrev pub optional_positional_rule : Text → Rule
 optional_positional_rule name = record (new_rule name) { value_names = 1 }
 
--- the rule by which `clap` parses an argument of the table
+-- the rule by which `clap` parses an argument that the table describes
 abbrev pub argument_rule : Argument → Rule
 argument_rule (argument.Word name value help) = positional_rule name.now
 argument_rule (argument.OptionalPositional name value help) = optional_positional_rule name.now
@@ -70,11 +70,11 @@ argument_rule (argument.Number name letter help bounds defaults) =
     with_letter (number_rule name.now bounds.least bounds.most defaults.now) letter
 argument_rule argument.Group = group_rule
 
--- the rule of the positional argument <PART>.., which is repeatable
+-- the rule of the positional argument <PART>.., which can be repeated
 abbrev pub parts_rule : Rule
 parts_rule = repeated_rule (positional_rule (codes "part"))
 
--- the rule of --only <NAME>, which is repeatable
+-- the rule of --only <NAME>, which can be repeated
 abbrev pub only_rule : Rule
 only_rule = repeated_rule (option_rule (codes "only"))
 
@@ -106,23 +106,23 @@ job_budget_rule = number_rule (codes "budget") (pos 1) (pos max_budget) []
 abbrev pub memory_rule : Rule
 memory_rule = number_rule (codes "memory") (pos 64) (pos 4096) []
 
--- `app` with this argument of the table as a further argument
+-- `app` with an argument added that the table describes
 abbrev pub with_argument : App → Argument → App
 with_argument app argument = with_rule app (argument_rule argument)
 
--- `app` with these arguments of the table as further arguments, in order
+-- `app` with arguments added that the table describes, in order
 abbrev pub with_arguments : App → List Argument → App
 with_arguments = fold with_argument
 
--- the `clap` command that has the name and the arguments of this command of the table
+-- the rules of a command that the table describes: its name and its arguments
 abbrev pub subcommand_app : Subcommand → App
 subcommand_app subcommand = with_arguments (new_app subcommand.name.now) subcommand.arguments.now
 
--- `app` with this command of the table as a further subcommand
+-- `app` with a subcommand added that the table describes
 abbrev pub with_table_command : App → Subcommand → App
 with_table_command app subcommand = with_subcommand app (subcommand_app subcommand).top
 
--- `app` with these commands of the table as further subcommands, in order
+-- `app` with subcommands added that the table describes, in order
 abbrev pub with_subcommands : App → List Subcommand → App
 with_subcommands = fold with_table_command
 
@@ -208,7 +208,7 @@ abbrev pub cover_app : App
 cover_app = with_rule (with_rule (with_threads (with_rule (with_rule (with_choice (app_of_list (codes "cover")))
     (option_rule (codes "shard"))) (flag_rule (codes "lenient")))) (option_rule (codes "counts"))) (flag_rule (codes "csv"))
 
--- the greatest value of `--top`, which limits the number of functions shown for each image
+-- the greatest value of `--top`, the maximum number of functions shown for each image
 abbrev pub max_functions : ℕ
 max_functions = 1000000
 
@@ -219,7 +219,7 @@ profile_app = with_rule (with_rule (with_rule (with_threads (with_rule (with_rul
     (optional_positional_rule (codes "name")))) (option_rule (codes "shard"))) (flag_rule (codes "lenient")))) (option_rule (codes "counts")))
     (number_rule (codes "top") (pos 1) (pos max_functions) [])) (flag_rule (codes "csv"))
 
--- the `clap` command for a command that chooses jobs
+-- the rules of a command that chooses jobs
 abbrev pub choosing_app : ChoosingCommand → App
 choosing_app choosing.Run = rvtest_run_app
 choosing_app choosing.List = list_app
@@ -236,7 +236,7 @@ explain_app = with_color (with_rule (with_rule (with_rule (with_rule (app_of_lis
 abbrev pub console_app : App
 console_app = with_rule (with_rule (app_of_list (codes "console")) (positional_rule (codes "name"))) (option_rule (codes "root"))
 
--- the rules of `gdb <LIST> <NAME> [--root <DIR>] [--memory <MB>]`
+-- the rules of `gdb <LIST> <NAME> [--root <DIR>] [--memory <N>]`
 abbrev pub gdb_app : App
 gdb_app = with_rule (with_rule (with_rule (app_of_list (codes "gdb")) (positional_rule (codes "name"))) (option_rule (codes "root")))
     memory_rule
@@ -267,7 +267,7 @@ show_app = with_color (with_junit (with_partial (with_rule (new_app (codes "show
 abbrev pub counts_app : App
 counts_app = with_rule (with_rule (new_app (codes "counts")) (repeated_rule (positional_rule (codes "table")))) (file_rule (codes "out"))
 
--- the command `rvtest` before its subcommands are added: it requires a subcommand, has a version, and lets `clap` add no `help` subcommand
+-- the rules of `rvtest` without its subcommands: it requires a subcommand, has a version, and `clap` does not add a `help` subcommand
 abbrev pub rvtest_top_app : App
 rvtest_top_app = let app = new_app (codes "rvtest") in
     record app {
@@ -296,7 +296,7 @@ with_reports app = with_subcommand (with_subcommand (with_subcommand app merge_a
 abbrev pub help_app : App
 help_app = with_rule (new_app (codes "help")) (optional_positional_rule (codes "topic"))
 
--- the command `rvtest` with all its subcommands
+-- the rules of `rvtest` with all its subcommands
 abbrev pub rvtest_full_app : App
 rvtest_full_app = with_subcommand (with_subcommand (with_subcommand (with_subcommand (with_reports (with_lists rvtest_top_app)) counts_app.top)
     cover_app.top) profile_app.top) help_app.top

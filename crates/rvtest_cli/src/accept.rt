@@ -14,20 +14,20 @@ use rv_cli::limits::MAX_GROUP;
 use rv_cli::values::{is_flag_set, number_value, text_value};
 use std::alloc::Global;
 
-/// The arguments of `accept`: the jobs to run, and which changes are written.
+/// The arguments of `accept`: the jobs to run, and which changes to write.
 #[derive(Drop)]
 pub struct AcceptArgs<'a> {
-    /// The jobs, and how they run. An option that `accept` does not have is unset.
+    /// The jobs, and how to run them. Options that `accept` does not have are not set.
     pub run: RunArgs<'a>,
-    /// Whether a different exit code or kind of fault is accepted, too.
+    /// Whether to accept a different exit code or kind of fault, too.
     pub ends: bool,
-    /// Whether changes are only reported, and nothing is written.
+    /// Whether to report the changes without writing anything.
     pub check: bool,
-    /// Whether golden files outside of the list's directory, or of the `--root` directory, are written, too.
+    /// Whether to write golden files outside of the list's directory, or of the `--root` directory, too.
     pub outside: bool,
 }
 
-/// Returns the request of `accept` with these values, or an error if they misuse an option.
+/// Returns the request of `accept` with these values, or an error if options are misused.
 pub(crate) fn accept_request<'a>(
     alloc: Global,
     values: &ArgMatches<'a>,
@@ -41,7 +41,7 @@ pub(crate) fn accept_request<'a>(
     }
 }
 
-// Returns the request of `accept` with these values, which misuse no option.
+// Returns the request of `accept` with these values, in which no option is misused.
 fn valid_accept_request<'a>(
     alloc: Global,
     values: &ArgMatches<'a>,

@@ -1,4 +1,4 @@
-//! Why arguments make no request.
+//! Errors in the arguments.
 
 ghost use Rattle.std.specs.Prelude.{◌≡◌, IfOk, string_bytes};
 ghost use Rattle.clap.specs.Words.{kind_of};
@@ -9,17 +9,18 @@ use clap::error::ErrorKind;
 use clap::{Command, Error};
 use std::alloc::{AllocError, Global};
 
-/// Why the arguments make no request: they have an error, or they request the help or the version.
+/// Why the arguments make no request: they have an error, or they ask for the help or the version.
 #[derive(Drop)]
 pub enum ArgsError {
     /// Memory ran out.
     OutOfMemory,
-    /// An error of this kind, or the help or the version, with the text to show.
+    /// An error of this kind, or the help or the version, with the text to print.
     Message(ErrorKind, String),
 }
 
 impl ArgsError {
-    /// Returns the error for an error of `clap`, with the text of `clap` and better tips. No contract of `clap` describes its texts.
+    /// Converts an error of `clap`; its tips are improved. `first` is what the first argument should be. No contract says which texts
+    /// `clap` writes.
     pub(crate) fn from_clap(alloc: Global, error: &Error, first: FirstArgument) -> ArgsError
         ensures { IsErrorOfKind (kind_of error.now) result }
     {
@@ -44,8 +45,8 @@ impl From<AllocError> for ArgsError {
     }
 }
 
-/// Returns an error that `clap` itself does not detect, with a text in the form that `clap` uses: `error: ` and `message`, the usage of the
-/// command, and the hint to try `--help`. `message` does not end with a line feed.
+/// Returns an error that `clap` itself does not detect, with a text as `clap` would write it: `error: ` and the message, the usage of the
+/// command, and the hint to try `--help`. The message has no line feed at its end.
 pub fn usage_error(
     alloc: Global,
     command: Result<Command<'_>, AllocError>,
@@ -60,7 +61,7 @@ pub fn usage_error(
     }
 }
 
-// Returns the text of an error: the message `message`, the usage of the command, and the hint to try `--help`.
+// Returns the text of an error: the message, the usage of the command, and the hint to try `--help`.
 fn text_with_usage(
     alloc: Global,
     command: Result<Command<'_>, AllocError>,
@@ -72,7 +73,7 @@ fn text_with_usage(
     usage_error_text(alloc, message, usage.as_str())
 }
 
-// Returns the text of an error: the message `message`, the usage of a command, and the hint to try `--help`.
+// Returns the text of an error: the message, the usage of a command, and the hint to try `--help`.
 fn usage_error_text(alloc: Global, message: &str, usage: &str) -> Result<String, AllocError>
     ensures { IfOk result (λ text. string_bytes text ≡ usage_error_text message.now usage.now) }
 {
@@ -89,7 +90,7 @@ fn usage_of(command: Result<Command<'_>, AllocError>) -> Result<String, AllocErr
     match command {
         Ok(mut command) => {
             let usage = command.render_usage();
-            // Dropping each of its fields at the end of the block would take twice the time to prove.
+            // Dropping each of its fields at the end of the block would take twice as long to prove.
             drop(command);
             usage
         }

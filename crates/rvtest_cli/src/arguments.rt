@@ -1,4 +1,4 @@
-//! The arguments of a command, each with its rule.
+//! The arguments of a command, and the rules by which `clap` parses them.
 
 ghost use Rattle.std.specs.Prelude.{◌≡◌, false};
 ghost use Rattle.clap.specs.Words.{App, rule_of};
@@ -12,14 +12,14 @@ use rv_cli::arguments::{group_argument, option_argument, positional_argument};
 use rv_cli::command_builder::{Built, with_argument};
 use std::alloc::Global;
 
-/// The least and the greatest number that an option accepts.
+/// The least and the greatest number that an option accepts, both included.
 #[derive(Clone, Copy)]
 pub(crate) struct NumberRange {
     pub(crate) least: i64,
     pub(crate) most: i64,
 }
 
-/// An argument of a command: its name, the placeholder of its value in the usage if the value is any text, and its help.
+/// An argument of a command: its name, the value name that its usage shows (if it has one), and its help.
 #[derive(Clone, Copy)]
 pub(crate) enum Argument<'a> {
     /// A required positional argument.
@@ -32,18 +32,18 @@ pub(crate) enum Argument<'a> {
     Option(&'a str, &'a str, &'a str),
     /// An option with the path of a file, which is not empty.
     File(&'a str, &'a str),
-    /// A repeatable option with a value.
+    /// An option with a value, which can be repeated.
     RepeatableOption(&'a str, &'a str, &'a str),
-    /// An option without a value: its name, the letter of its short option, if it has one, and its help.
+    /// An option without a value: its name, the letter of its short form, if any, and its help.
     Flag(&'a str, Option<char>, &'a str),
-    /// An option with a number: its name, the letter of its short option, if it has one, its help, its range, and its default, if any.
+    /// An option with a number: its name, the letter of its short form, if any, its help, its range, and its default value, if any.
     Number(&'a str, Option<char>, &'a str, NumberRange, &'a [&'a str]),
-    /// The option `--group`: the number of jobs in a chunk, which a thread takes at a time.
+    /// The option `--group`: the number of consecutive jobs that a thread claims at once.
     Group,
 }
 
 impl<'a> Argument<'a> {
-    // Returns the `clap` argument for this argument of the table.
+    // Returns this argument for `clap`.
     fn clap_argument(&self, alloc: Global) -> Arg<'a>
         ensures { (rule_of result ≡ argument_rule self.now) × (result.global ≡ false) }
     {
@@ -87,7 +87,7 @@ pub(crate) fn with_arguments<'a>(
     command
 }
 
-// Returns the argument, with a short option if its letter is given; unchanged otherwise.
+// Returns the argument, with a short form if a letter is given.
 fn with_letter<'a>(argument: Arg<'a>, letter: Option<char>) -> Arg<'a>
     ensures rule { rule_of result ≡ with_letter (rule_of argument.entry) letter }
     ensures local { result.global ≡ argument.entry.global }
@@ -98,7 +98,7 @@ fn with_letter<'a>(argument: Arg<'a>, letter: Option<char>) -> Arg<'a>
     }
 }
 
-// Returns the optional positional argument `name`; the usage shows its value as `value`.
+// Returns the optional positional argument `name`, whose value name is `value`.
 fn optional_positional_argument<'a>(
     alloc: Global,
     name: &'a str,
@@ -110,7 +110,7 @@ fn optional_positional_argument<'a>(
     Arg::new(alloc, name).value_name(value).help(help)
 }
 
-// Returns the option `name`, whose value is a non-empty path of a file.
+// Returns the option `name`, whose value is the path of a file and not empty.
 fn file_argument<'a>(alloc: Global, name: &'a str, help: &'a str) -> Arg<'a>
     ensures { (rule_of result ≡ file_rule name.entry.now) × (result.global ≡ false) }
 {
@@ -127,7 +127,7 @@ fn flag_argument<'a>(alloc: Global, name: &'a str, help: &'a str) -> Arg<'a>
         .help(help)
 }
 
-// Returns the option `name`, whose value is an integer within `bounds`; `defaults` are its default values.
+// Returns the option `name`, whose value is an integer within `bounds`, with these default values.
 fn number_argument<'a>(
     alloc: Global,
     name: &'a str,

@@ -1,4 +1,4 @@
-//! The command line of `rvtest`, for `clap`.
+//! The command line of `rvtest`, as `clap` parses it.
 
 ghost use Rattle.std.specs.Prelude.{◌≡◌, ◌++◌, IfOk, codes, false, string_bytes};
 ghost use Rattle.clap.specs.Words.{App, app_of, new_app};
@@ -13,24 +13,24 @@ use clap::Command;
 use rv_cli::command_builder::{Built, with_subcommand};
 use std::alloc::{AllocError, Global};
 
-/// A command of `rvtest`, as an entry of the table.
+/// A command of `rvtest`, as the table describes it.
 #[derive(Clone, Copy)]
 pub(crate) struct Subcommand<'a> {
     pub(crate) name: &'a str,
     pub(crate) about: &'a str,
-    /// The end of its help: examples and statuses.
+    /// The end of its help: examples and exit statuses.
     pub(crate) after: &'a str,
     pub(crate) arguments: &'a [Argument<'a>],
 }
 
-/// Returns the command line of `rvtest` with all its subcommands.
+/// Returns the command `rvtest` with all its subcommands.
 pub(crate) fn rvtest_command<'a>(alloc: Global) -> Result<Command<'a>, AllocError>
     ensures { IfOk result (λ command. app_of command ≡ rvtest_full_app) }
 {
     with_subcommands(alloc, top_command(alloc), &COMMANDS)
 }
 
-// Returns the command `rvtest` with its version, but without its subcommands.
+// Returns the command `rvtest` with its version and without its subcommands.
 fn top_command<'a>(alloc: Global) -> Built<'a>
     ensures app { IsBuilt rvtest_top_app result }
     ensures version { HasVersion (codes "1.0.0") result }
@@ -59,7 +59,7 @@ fn with_subcommands<'a>(
     command
 }
 
-// Returns the `clap` command for this command of the table, with its arguments.
+// Returns the command that the table describes, with its arguments, for `clap`.
 fn subcommand_of_table<'a>(alloc: Global, subcommand: &Subcommand<'a>) -> Built<'a>
     ensures { IsBuilt (subcommand_app subcommand.now) result }
 {
@@ -67,7 +67,7 @@ fn subcommand_of_table<'a>(alloc: Global, subcommand: &Subcommand<'a>) -> Built<
     with_arguments(alloc, command, subcommand.arguments)
 }
 
-// Returns the `clap` command for this command of the table, without arguments. Its usage begins with `rvtest` and its name.
+// Returns the command that the table describes, without arguments, for `clap`. Its usage begins with `rvtest` and its name.
 fn bare_command<'a>(alloc: Global, subcommand: &Subcommand<'a>) -> Built<'a>
     ensures app { IsBuilt (new_app subcommand.now.name.now) result }
     ensures usage { HasUsageOf (codes "rvtest " ++ subcommand.now.name.now) result }
@@ -102,7 +102,7 @@ pub enum ChoosingCommand {
 }
 
 impl ChoosingCommand {
-    /// Returns the `clap` command for this command, whose usage is shown if its arguments are rejected.
+    /// Returns this command for `clap`, to show its usage when its arguments are rejected.
     pub fn command<'a>(self, alloc: Global) -> Result<Command<'a>, AllocError>
         ensures { IfOk result (λ command.
             (app_of command ≡ choosing_app self) × ((out-Command command).has_globals ≡ false)) }
@@ -117,7 +117,7 @@ impl ChoosingCommand {
     }
 }
 
-/// Returns the command `rvtest list`, whose usage is shown if its arguments are rejected.
+/// Returns the command `rvtest list`, to show its usage when its arguments are rejected.
 pub(crate) fn list_command<'a>(alloc: Global) -> Result<Command<'a>, AllocError>
     ensures { IfOk result (λ command.
         (app_of command ≡ list_app) × ((out-Command command).has_globals ≡ false)) }
@@ -125,7 +125,7 @@ pub(crate) fn list_command<'a>(alloc: Global) -> Result<Command<'a>, AllocError>
     subcommand_of_table(alloc, &LIST)
 }
 
-/// Returns the command `rvtest accept`, whose usage is shown if its arguments are rejected.
+/// Returns the command `rvtest accept`, to show its usage when its arguments are rejected.
 pub(crate) fn accept_command<'a>(alloc: Global) -> Result<Command<'a>, AllocError>
     ensures { IfOk result (λ command.
         (app_of command ≡ accept_app) × ((out-Command command).has_globals ≡ false)) }
@@ -133,7 +133,7 @@ pub(crate) fn accept_command<'a>(alloc: Global) -> Result<Command<'a>, AllocErro
     subcommand_of_table(alloc, &ACCEPT)
 }
 
-/// Returns the command `rvtest cover`, whose usage is shown if its arguments are rejected.
+/// Returns the command `rvtest cover`, to show its usage when its arguments are rejected.
 pub(crate) fn cover_command<'a>(alloc: Global) -> Result<Command<'a>, AllocError>
     ensures { IfOk result (λ command.
         (app_of command ≡ cover_app) × ((out-Command command).has_globals ≡ false)) }
@@ -141,7 +141,7 @@ pub(crate) fn cover_command<'a>(alloc: Global) -> Result<Command<'a>, AllocError
     subcommand_of_table(alloc, &COVER)
 }
 
-/// Returns the command `rvtest profile`, whose usage is shown if its arguments are rejected.
+/// Returns the command `rvtest profile`, to show its usage when its arguments are rejected.
 pub(crate) fn profile_command<'a>(alloc: Global) -> Result<Command<'a>, AllocError>
     ensures { IfOk result (λ command.
         (app_of command ≡ profile_app) × ((out-Command command).has_globals ≡ false)) }
@@ -149,7 +149,7 @@ pub(crate) fn profile_command<'a>(alloc: Global) -> Result<Command<'a>, AllocErr
     subcommand_of_table(alloc, &PROFILE)
 }
 
-/// Returns the command `rvtest run`, whose usage is shown if its arguments are rejected.
+/// Returns the command `rvtest run`, to show its usage when its arguments are rejected.
 pub(crate) fn run_command<'a>(alloc: Global) -> Result<Command<'a>, AllocError>
     ensures { IfOk result (λ command.
         (app_of command ≡ rvtest_run_app) × ((out-Command command).has_globals ≡ false)) }
@@ -157,7 +157,7 @@ pub(crate) fn run_command<'a>(alloc: Global) -> Result<Command<'a>, AllocError>
     subcommand_of_table(alloc, &RUN)
 }
 
-/// Returns the command `rvtest diff`, whose usage is shown if its arguments are rejected.
+/// Returns the command `rvtest diff`, to show its usage when its arguments are rejected.
 pub(crate) fn diff_command<'a>(alloc: Global) -> Result<Command<'a>, AllocError>
     ensures { IfOk result (λ command.
         (app_of command ≡ diff_app) × ((out-Command command).has_globals ≡ false)) }
@@ -165,7 +165,7 @@ pub(crate) fn diff_command<'a>(alloc: Global) -> Result<Command<'a>, AllocError>
     subcommand_of_table(alloc, &DIFF)
 }
 
-/// Returns the command `rvtest merge`, whose usage is shown if its arguments are rejected.
+/// Returns the command `rvtest merge`, to show its usage when its arguments are rejected.
 pub fn merge_command<'a>(alloc: Global) -> Result<Command<'a>, AllocError>
     ensures { IfOk result (λ command.
         (app_of command ≡ merge_app) × ((out-Command command).has_globals ≡ false)) }
@@ -173,7 +173,7 @@ pub fn merge_command<'a>(alloc: Global) -> Result<Command<'a>, AllocError>
     subcommand_of_table(alloc, &MERGE)
 }
 
-/// Returns the command `rvtest show`, whose usage is shown if its arguments are rejected.
+/// Returns the command `rvtest show`, to show its usage when its arguments are rejected.
 pub(crate) fn show_command<'a>(alloc: Global) -> Result<Command<'a>, AllocError>
     ensures { IfOk result (λ command.
         (app_of command ≡ show_app) × ((out-Command command).has_globals ≡ false)) }
@@ -181,7 +181,7 @@ pub(crate) fn show_command<'a>(alloc: Global) -> Result<Command<'a>, AllocError>
     subcommand_of_table(alloc, &SHOW)
 }
 
-/// Returns the command `rvtest explain`, whose usage is shown if its arguments are rejected.
+/// Returns the command `rvtest explain`, to show its usage when its arguments are rejected.
 pub(crate) fn explain_command<'a>(alloc: Global) -> Result<Command<'a>, AllocError>
     ensures { IfOk result (λ command.
         (app_of command ≡ explain_app) × ((out-Command command).has_globals ≡ false)) }

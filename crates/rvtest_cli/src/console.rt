@@ -7,7 +7,7 @@ use crate::requests::Request;
 use clap::ArgMatches;
 use rv_cli::values::text_value;
 
-/// The arguments of `console`: the job whose console is printed.
+/// The arguments of `console`: the job whose console output is printed.
 #[derive(Clone, Copy)]
 pub struct ConsoleArgs<'a> {
     /// The path of the job list.

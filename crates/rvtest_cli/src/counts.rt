@@ -13,9 +13,9 @@ use std::alloc::Global;
 /// The arguments of `counts`: the tables to add up.
 #[derive(Drop)]
 pub struct CountsArgs<'a> {
-    /// The paths of the tables.
+    /// The paths of the tables to add.
     pub tables: Vec<&'a str>,
-    /// The path of the sum; `None` or `-` for standard output.
+    /// The path of the file for the sum; `None` or `-` for standard output.
     pub out: Option<&'a str>,
 }
 

@@ -14,17 +14,17 @@ use rv_cli::limits::MAX_GROUP;
 use rv_cli::values::{is_flag_set, is_option_given, number_value, text_value};
 use std::alloc::Global;
 
-/// The arguments of `cover`: the jobs whose images' coverage is shown, and how.
+/// The arguments of `cover`: the jobs whose images' coverage is shown, and how to show it.
 #[derive(Drop)]
 pub struct CoverArgs<'a> {
-    /// The jobs, and how they run. If a counts path is set, that table is read instead of running the jobs. An option that `cover` does not
-    /// have is unset.
+    /// The jobs, and how to run them. If `counts` is set, that table is read and no job is run. Options that `cover` does not have are not
+    /// set.
     pub run: RunArgs<'a>,
-    /// Whether the output is CSV.
+    /// Whether to write CSV.
     pub csv: bool,
 }
 
-/// Returns the request of `cover` with these values, or an error if they misuse an option.
+/// Returns the request of `cover` with these values, or an error if options are misused.
 pub(crate) fn cover_request<'a>(
     alloc: Global,
     values: &ArgMatches<'a>,
@@ -38,7 +38,7 @@ pub(crate) fn cover_request<'a>(
     }
 }
 
-// Returns the request of `cover` with these values, which misuse no option.
+// Returns the request of `cover` with these values, in which no option is misused.
 fn valid_cover_request<'a>(
     alloc: Global,
     values: &ArgMatches<'a>,
@@ -56,7 +56,7 @@ fn valid_cover_request<'a>(
     Ok(Some(Request::Cover(CoverArgs { run, csv })))
 }
 
-/// Returns the first misuse of the options of `cover`; `None` if there is no misuse.
+/// Returns the first misuse of the options of `cover`, or `None` if there is none.
 pub(crate) fn cover_misuse(values: &ArgMatches<'_>) -> Option<Misuse>
     ensures { result ≡ cover_misuse (rows_of (found_of values.now)) }
 {

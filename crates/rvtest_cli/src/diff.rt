@@ -12,24 +12,24 @@ use clap::ArgMatches;
 use rv_cli::values::{is_flag_set, is_option_given, number_value, text_value};
 use std::alloc::Global;
 
-/// The arguments of `diff`: the two reports to compare, and how.
+/// The arguments of `diff`: the two reports to compare, and what to compare.
 #[derive(Clone, Copy)]
 pub struct DiffArgs<'a> {
     /// The path of the old report.
     pub old: &'a str,
     /// The path of the new report.
     pub new: &'a str,
-    /// Whether a report may be truncated.
+    /// Whether the reports can be truncated.
     pub partial: bool,
-    /// Whether different steps, fault locations and fault values are reported, too.
+    /// Whether to report different steps, fault locations and fault values, too.
     pub steps: bool,
-    /// If set, jobs that take over this many percent more steps, up to 1,000, are reported, too.
+    /// If set, jobs that take over this many percent more steps, from 0 to 1,000, are reported, too.
     pub slower: Option<u32>,
-    /// When results are coloured: `always`, `never` or `auto`; `None` means `auto`.
+    /// When to color the output: `always`, `never` or `auto`; `None` means `auto`.
     pub color: Option<&'a str>,
 }
 
-/// Returns the request of `diff` with these values, or an error if they misuse an option.
+/// Returns the request of `diff` with these values, or an error if options are misused.
 pub(crate) fn diff_request<'a>(
     alloc: Global,
     values: &ArgMatches<'a>,
@@ -43,7 +43,7 @@ pub(crate) fn diff_request<'a>(
     }
 }
 
-// Returns the request of `diff` with these values, which misuse no option.
+// Returns the request of `diff` with these values, in which no option is misused.
 fn valid_diff_request<'a>(values: &ArgMatches<'a>) -> Option<Request<'a>>
     ensures { IsRequestFor (diff_request (rows_of (found_of values.now))) result }
 {
@@ -63,7 +63,7 @@ fn valid_diff_request<'a>(values: &ArgMatches<'a>) -> Option<Request<'a>>
     }))
 }
 
-// Returns the first misuse of the options of `diff`: `--steps` with `--slower`, or an invalid `--color`; `None` if there is no misuse.
+// Returns the first misuse of the options of `diff`, or `None` if there is none: `--steps` with `--slower`, or an invalid `--color`.
 fn diff_misuse(values: &ArgMatches<'_>) -> Option<Misuse>
     ensures { result ≡ diff_misuse (rows_of (found_of values.now)) }
 {

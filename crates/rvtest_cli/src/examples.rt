@@ -1,4 +1,4 @@
-//! The end of the help of each command of `rvtest`: sample calls as they are typed, and what the exit status means.
+//! The end of the help of each command: examples as they are typed, and the meaning of each exit status.
 
 pub(crate) const RUN: &str = "\
 Examples:

@@ -12,24 +12,24 @@ use rv_cli::limits::MAX_BUDGET;
 use rv_cli::values::{number_value, text_value};
 use std::alloc::Global;
 
-/// The arguments of `explain`: the job whose end is explained.
+/// The arguments of `explain`: the job to explain.
 #[derive(Clone, Copy)]
 pub struct ExplainArgs<'a> {
     /// The path of the job list.
     pub list: &'a str,
     /// The job's name.
     pub name: &'a str,
-    /// The number of the job's last instructions that are shown, up to 100,000.
+    /// The number of the job's last instructions to show, up to 100,000.
     pub last: u32,
-    /// The budget that overrides that of each job in the list: from 1 to 1,000,000,000 steps.
+    /// The step budget that overrides each job's own, from 1 to 1,000,000,000.
     pub budget: Option<u32>,
     /// The directory against which the paths in the list are resolved.
     pub root: Option<&'a str>,
-    /// When results are coloured: `always`, `never` or `auto`; `None` means `auto`.
+    /// When to color the output: `always`, `never` or `auto`; `None` means `auto`.
     pub color: Option<&'a str>,
 }
 
-/// Returns the request of `explain` with these values, or an error if they misuse an option.
+/// Returns the request of `explain` with these values, or an error if options are misused.
 pub(crate) fn explain_request<'a>(
     alloc: Global,
     values: &ArgMatches<'a>,
@@ -43,7 +43,7 @@ pub(crate) fn explain_request<'a>(
     }
 }
 
-// Returns the request of `explain` with these values, which misuse no option.
+// Returns the request of `explain` with these values, in which no option is misused.
 fn valid_explain_request<'a>(values: &ArgMatches<'a>) -> Option<Request<'a>>
     ensures { IsRequestFor (explain_request (rows_of (found_of values.now))) result }
 {

@@ -7,7 +7,7 @@ use crate::requests::Request;
 use clap::ArgMatches;
 use rv_cli::values::{number_value, text_value};
 
-/// The arguments of `gdb`: the job whose run is debugged.
+/// The arguments of `gdb`: the job to debug.
 #[derive(Clone, Copy)]
 pub struct GdbArgs<'a> {
     /// The path of the job list.
@@ -16,7 +16,7 @@ pub struct GdbArgs<'a> {
     pub name: &'a str,
     /// The directory against which the paths in the list are resolved.
     pub root: Option<&'a str>,
-    /// The most megabytes that the session may use, from 64 to 4,096.
+    /// The memory limit of the session in megabytes, from 64 to 4,096.
     pub memory: Option<u32>,
 }
 

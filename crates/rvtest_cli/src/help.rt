@@ -7,7 +7,7 @@ use crate::requests::Request;
 use clap::ArgMatches;
 use rv_cli::values::text_value;
 
-/// The arguments of `help`: a topic that is not a command.
+/// The arguments of `help`: a topic other than the name of a command.
 #[derive(Clone, Copy)]
 pub struct HelpArgs<'a> {
     pub topic: &'a str,

@@ -1,7 +1,7 @@
-//! The command line of `rvtest`: the requests of a person, parsed by `clap`.
+//! The command line of `rvtest`, which `clap` parses, and the requests that its arguments make.
 //!
-//! [`read_words`] parses the arguments of a process. Its error has the form of `clap`'s own; requests for help and the version are errors,
-//! too. [`usage_error`] makes such an error for a problem that `clap` does not find, such as an invalid regular expression.
+//! [`read_words`] parses the arguments of a process. Its error has the form of an error of `clap`; a request for the help or the version is
+//! an error, too. [`usage_error`] makes an error that `clap` does not detect, such as an invalid regular expression.
 #![tactic(auto)]
 
 mod accept;

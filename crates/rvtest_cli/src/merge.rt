@@ -12,22 +12,22 @@ use clap::ArgMatches;
 use rv_cli::values::{argument_values, is_flag_set, text_value};
 use std::alloc::Global;
 
-/// The arguments of `merge`: the parts of one run, which make the report of the whole list.
+/// The arguments of `merge`: the parts of one run, which together make the report of the whole list.
 #[derive(Drop)]
 pub struct MergeArgs<'a> {
-    /// The paths of the parts.
+    /// The paths of the parts, which are the reports of all shards.
     pub parts: Vec<&'a str>,
-    /// The path of the report; `-` is standard output.
+    /// The path of the merged report; `-` is standard output.
     pub report: Option<&'a str>,
     /// The path of the JUnit file; `-` is standard output.
     pub junit: Option<&'a str>,
-    /// The name of the JUnit suite; `None` derives it from the report's path.
+    /// The name of the JUnit suite; if `None`, it is derived from the report's path.
     pub suite: Option<&'a str>,
-    /// Whether only a failed verdict is a failure.
+    /// Whether only jobs whose verdict is `fail` count as failures.
     pub lenient: bool,
 }
 
-/// Returns the request of `merge` with these values, or an error if they misuse an option.
+/// Returns the request of `merge` with these values, or an error if options are misused.
 pub(crate) fn merge_request<'a>(
     alloc: Global,
     values: &ArgMatches<'a>,
@@ -41,7 +41,7 @@ pub(crate) fn merge_request<'a>(
     }
 }
 
-// Returns the request of `merge` with these values, which misuse no option.
+// Returns the request of `merge` with these values, in which no option is misused.
 fn valid_merge_request<'a>(
     alloc: Global,
     values: &ArgMatches<'a>,

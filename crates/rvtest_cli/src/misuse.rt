@@ -1,4 +1,4 @@
-//! Errors in arguments in which `clap` finds none.
+//! Errors in arguments that `clap` accepts.
 
 ghost use Rattle.std.specs.Prelude.{◌≡◌, [], ◌∷◌, Some};
 ghost use Rattle.clap.specs.Words.{found_of, rows_of};
@@ -17,39 +17,39 @@ use std::alloc::{AllocError, Global};
 pub(crate) enum Misuse {
     /// `--verbose` with `--quiet`.
     VerboseAndQuiet,
-    /// A shard with a choice of jobs.
+    /// `--shard` with options that choose jobs.
     ShardAndChoice,
-    /// A named job with a choice of jobs or a shard.
+    /// The argument NAME with options that choose jobs, or with `--shard`.
     NameAndChoice,
-    /// A stamp without a shard.
+    /// `--stamp` without `--shard`.
     StampAlone,
-    /// A budget that overrides the list's, with a report, JUnit XML or a shard.
+    /// `--budget` with options that save the rows: `--into`, `--report`, `--junit` or `--shard`.
     BudgetAndRows,
-    /// Stopping after a failure, with a shard, whose part must have a row for each of its jobs.
+    /// `--stop-after` with `--shard`: the report of a shard must have a row for each of its jobs.
     StopAfterAndShard,
-    /// Rows that update a report, with a report of their own or a shard.
+    /// `--into` with `--report` or `--shard`: the rows already go to a report.
     IntoAndReport,
-    /// Standard output as the report to update.
+    /// `--into` with standard output, from which no report can be read.
     IntoStdout,
-    /// One path for the report to write and the report that chooses the jobs.
+    /// `--report` and `--failed` with the same path.
     FailedIsReport,
-    /// A truncated report is allowed, but no report chooses jobs.
+    /// `--partial` without `--failed`.
     PartialAlone,
-    /// Comparing steps exactly and by a percentage.
+    /// `--steps` with `--slower`.
     StepsAndSlower,
-    /// Stacks without a table of counts.
+    /// `--stacks` without `--counts`.
     StacksAlone,
-    /// A suite without JUnit XML.
+    /// `--suite` without `--junit`.
     SuiteAlone,
-    /// A suite whose name is empty.
+    /// `--suite` with an empty name.
     EmptySuite,
-    /// An unknown word for colours.
+    /// `--color` with an unknown value.
     UnknownColor,
-    /// One destination for a report and JUnit XML.
+    /// `--report` and `--junit` with the same path.
     ReportIsJunit,
-    /// One path for the report to update and JUnit XML.
+    /// `--into` and `--junit` with the same path.
     IntoIsJunit,
-    /// One destination for the table of counts and a report or JUnit XML, or the report that chooses the jobs.
+    /// `--counts` with the path of `--report`, `--into`, `--junit` or `--failed`.
     CountsIsOther,
 }
 
@@ -65,7 +65,7 @@ impl Misuse {
         usage_error(alloc, command, self.misuse_error_kind(), self.misuse_text())
     }
 
-    // Returns the kind of `clap` error that reports this misuse.
+    // Returns the kind of error as which this misuse is reported.
     fn misuse_error_kind(self) -> ErrorKind
         ensures { misuse_kinds (Some self) ≡ result ∷ [] }
     {
@@ -150,7 +150,7 @@ impl Misuse {
     }
 }
 
-/// Returns the misuse that `--partial` is given without `--failed`; `None` otherwise.
+/// Returns the misuse of `--partial` without `--failed`, or `None` if there is none.
 pub(crate) fn choice_misuse(values: &ArgMatches<'_>) -> Option<Misuse>
     ensures { result ≡ choice_misuse (rows_of (found_of values.now)) }
 {
@@ -168,8 +168,8 @@ pub(crate) fn is_partial_alone(values: &ArgMatches<'_>) -> bool
     is_flag_set(values, "partial") && !is_option_given(values, "failed")
 }
 
-/// Returns the first misuse of the options for output files: `--junit` names the path of a report, or `--suite` is misused; `None` if there
-/// is no misuse.
+/// Returns the first misuse of the options for output files, or `None` if there is none: `--junit` has the path of a report, or `--suite`
+/// is misused.
 pub(crate) fn files_misuse(values: &ArgMatches<'_>) -> Option<Misuse>
     ensures { result ≡ files_misuse (rows_of (found_of values.now)) }
 {
@@ -180,7 +180,7 @@ pub(crate) fn files_misuse(values: &ArgMatches<'_>) -> Option<Misuse>
     }
 }
 
-/// Returns the first misuse of the options of `show`: an invalid `--color`, or a misused `--suite`; `None` if there is no misuse.
+/// Returns the first misuse of the options of `show`, or `None` if there is none: an invalid `--color`, or a misused `--suite`.
 pub(crate) fn show_misuse(values: &ArgMatches<'_>) -> Option<Misuse>
     ensures { result ≡ show_misuse (rows_of (found_of values.now)) }
 {
@@ -191,7 +191,7 @@ pub(crate) fn show_misuse(values: &ArgMatches<'_>) -> Option<Misuse>
     }
 }
 
-/// Returns the misuse that the value of `--color` is invalid; `None` if it is valid or not given.
+/// Returns the misuse of `--color` with an invalid value, or `None` if there is none.
 pub(crate) fn color_misuse(values: &ArgMatches<'_>) -> Option<Misuse>
     ensures { result ≡ color_misuse (rows_of (found_of values.now)) }
 {
@@ -202,7 +202,7 @@ pub(crate) fn color_misuse(values: &ArgMatches<'_>) -> Option<Misuse>
     }
 }
 
-/// Whether the value of `--color` is given and invalid.
+/// Whether `--color` is given with an invalid value.
 pub(crate) fn is_color_unknown(values: &ArgMatches<'_>) -> bool
     ensures { result ≡ is_color_unknown (rows_of (found_of values.now)) }
 {
@@ -212,14 +212,14 @@ pub(crate) fn is_color_unknown(values: &ArgMatches<'_>) -> bool
     }
 }
 
-// Whether a value of `--color` is valid: `always`, `never` or `auto`.
+// Whether this is a valid value of `--color`: `always`, `never` or `auto`.
 fn is_color_value(word: &str) -> bool
     ensures { result ≡ is_color_value word.now }
 {
     word == "always" || word == "never" || word == "auto"
 }
 
-/// Returns the misuse of `--suite`: it is given without `--junit`, or with an empty value; `None` if it is not misused.
+/// Returns the misuse of `--suite`, or `None` if there is none: it is given without `--junit`, or with an empty value.
 pub(crate) fn suite_misuse(values: &ArgMatches<'_>) -> Option<Misuse>
     ensures { result ≡ suite_misuse (rows_of (found_of values.now)) }
 {

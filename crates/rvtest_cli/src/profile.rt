@@ -17,22 +17,22 @@ use rv_cli::limits::MAX_GROUP;
 use rv_cli::values::{argument_values, is_flag_set, is_option_given, number_value, text_value};
 use std::alloc::{AllocError, Global};
 
-/// The greatest value of `--top`, the number of functions shown for each image.
+/// The greatest value of `--top`, the maximum number of functions shown for each image.
 pub(crate) const MAX_FUNCTIONS: u32 = 1_000_000;
 
-/// The arguments of `profile`: the jobs whose profile is shown, and how.
+/// The arguments of `profile`: the jobs whose profile is shown, and how to show it.
 #[derive(Drop)]
 pub struct ProfileArgs<'a> {
-    /// The jobs, or the named job, and how they run. If a counts path is set, that table is read instead of running the jobs. An option
-    /// that `profile` does not have is unset.
+    /// The jobs, or the job NAME, and how to run them. If `counts` is set, that table is read and no job is run. Options that `profile`
+    /// does not have are not set.
     pub run: RunArgs<'a>,
-    /// The number of functions of each image that are shown, from 1 to 1,000,000; `None` for all.
+    /// The number of functions to show for each image, from 1 to 1,000,000; `None` for all.
     pub top: Option<u32>,
-    /// Whether the output is CSV.
+    /// Whether to write CSV.
     pub csv: bool,
 }
 
-/// Returns the request of `profile` with these values, or an error if they misuse an option.
+/// Returns the request of `profile` with these values, or an error if options are misused.
 pub(crate) fn profile_request<'a>(
     alloc: Global,
     values: &ArgMatches<'a>,
@@ -46,7 +46,7 @@ pub(crate) fn profile_request<'a>(
     }
 }
 
-// Returns the request of `profile` with these values, which misuse no option.
+// Returns the request of `profile` with these values, in which no option is misused.
 fn valid_profile_request<'a>(
     alloc: Global,
     values: &ArgMatches<'a>,
@@ -65,7 +65,7 @@ fn valid_profile_request<'a>(
     Ok(Some(Request::Profile(ProfileArgs { run, top, csv })))
 }
 
-// Returns the arguments of a run of the job NAME, or if NAME is not given, of the jobs that the options choose.
+// Returns the arguments of a run of the job NAME, or, if NAME is not given, of the jobs that the options choose.
 fn named_run<'a>(
     alloc: Global,
     values: &ArgMatches<'a>,
@@ -82,7 +82,7 @@ fn named_run<'a>(
     Ok(run)
 }
 
-// Returns the names of the jobs to show: the argument NAME if it is given, and otherwise the values of `--only`.
+// Returns the names of the jobs to choose: NAME if it is given, and otherwise the values of `--only`.
 fn chosen_names<'a>(alloc: Global, values: &ArgMatches<'a>) -> Result<Vec<&'a str>, AllocError>
     ensures { IfOk result (λ names. map (λ name. name.now) names.items
         ≡ chosen_names (rows_of (found_of values.now))) }
@@ -94,7 +94,7 @@ fn chosen_names<'a>(alloc: Global, values: &ArgMatches<'a>) -> Result<Vec<&'a st
     }
 }
 
-// Returns the first misuse of the options of `profile`; `None` if there is no misuse.
+// Returns the first misuse of the options of `profile`, or `None` if there is none.
 fn profile_misuse(values: &ArgMatches<'_>) -> Option<Misuse>
     ensures { result ≡ profile_misuse (rows_of (found_of values.now)) }
 {
@@ -105,7 +105,7 @@ fn profile_misuse(values: &ArgMatches<'_>) -> Option<Misuse>
     }
 }
 
-// Whether the argument NAME is given together with an option that chooses jobs or with `--shard`.
+// Whether NAME is given together with options that choose jobs, or with `--shard`.
 fn is_name_combined_with_choice(values: &ArgMatches<'_>) -> bool
     ensures { result ≡ is_name_combined_with_choice (rows_of (found_of values.now)) }
 {

@@ -1,4 +1,4 @@
-//! The requests that arguments make of `rvtest`: a command with its values.
+//! The requests that the arguments of `rvtest` make: a command with its arguments.
 
 ghost use Rattle.std.specs.Prelude.{◌≡◌, [], IfErr, IfOk, IfSome, None, map, option_map};
 ghost use Rattle.clap.specs.Words.{fault_of, found_of, rows_of, subcommand_of, subcommand_rows_of};
@@ -29,22 +29,22 @@ use clap::ArgMatches;
 use std::alloc::Global;
 use std::convert::AsStr;
 
-/// A request that the arguments make: a command with its values.
+/// What the arguments request: a command with its arguments.
 #[derive(Drop)]
 pub enum Request<'a> {
     /// Run jobs of a list.
     Run(RunArgs<'a>),
-    /// List the jobs that a run with these arguments would run. An option that `list` does not have is unset.
+    /// List the jobs that a run with these arguments would run. Options that `list` does not have are not set.
     List(RunArgs<'a>),
     /// Run one job, and show how it ended and how it got there.
     Explain(ExplainArgs<'a>),
-    /// Run one job, and print its console.
+    /// Run one job, and print its console output.
     Console(ConsoleArgs<'a>),
     /// Debug the run of one job with gdb.
     Gdb(GdbArgs<'a>),
-    /// Report everything that is wrong with a list, without running anything.
+    /// Report all errors in a list and its files, without running anything.
     Check(CheckArgs<'a>),
-    /// Run jobs, and make their actual results the expected ones.
+    /// Run jobs, and update their expectations to the actual results.
     Accept(AcceptArgs<'a>),
     /// Merge the parts of one run into the report of the whole list.
     Merge(MergeArgs<'a>),
@@ -58,13 +58,13 @@ pub enum Request<'a> {
     Cover(CoverArgs<'a>),
     /// Show in which functions jobs spent their steps.
     Profile(ProfileArgs<'a>),
-    /// Show the help for a topic that is not a command.
+    /// Show the help about a topic other than a command.
     Help(HelpArgs<'a>),
 }
 
-/// Parses the arguments, the first of which is the program's name. Returns `None` if they request nothing. An error is `clap`'s own, unless
-/// it reports a misuse that `clap` does not find. Requests for help and the version are errors, too: of the kinds `DisplayHelp` and
-/// `DisplayVersion`.
+/// Parses the arguments, of which the first is the program's name. Returns `None` if they make no request. Most errors are those of `clap`;
+/// others report misused options, which `clap` does not detect. A request for the help or the version is an error, too, of the kind
+/// `DisplayHelp` or `DisplayVersion`.
 pub fn read_words<'a, T: AsStr>(
     alloc: Global,
     args: &'a [T],
@@ -74,9 +74,9 @@ pub fn read_words<'a, T: AsStr>(
         (λ request. option_map value_of_request request ≡ request_of_args (map T.text args.entry.now)) }
     // Each number is within the range of its argument.
     ensures within { IfOk result (λ request. IfSome request IsRequestInRange) }
-    // Arguments fail because of an error that is found in them or because memory runs out; otherwise they have no error.
+    // An error is one that the arguments have, or memory ran out; without an error the arguments have none.
     ensures kinds { FailsByKinds (args_error_kinds (map T.text args.entry.now)) result }
-    // If `clap` finds no error, the message says which options cannot be combined.
+    // If `clap` finds no error, the error reports the misuse of options.
     ensures misused { args_errors (map T.text args.entry.now) ≡ []
         → IfErr result (IsMisuseReported (args_misuse (map T.text args.entry.now))) }
 {
@@ -105,7 +105,7 @@ fn is_command_help(word: &str, topic: &str) -> bool
     is_help(word) && topic != "keys" && topic != "--help" && topic != "-h"
 }
 
-// Parses arguments that request help with `--help`. Returns the help as an error, as `clap` does.
+// Parses arguments that request the help with `--help`. The help is returned as an error, as `clap` does.
 fn command_help<'a, T: AsStr>(alloc: Global, args: &[T]) -> Result<Option<Request<'a>>, ArgsError>
     ensures value { IfOk result (λ request. request ≡ None) }
     ensures kinds { FailsByKinds (fault_of rvtest_full_app (map T.text args.entry.now)) result }
@@ -136,7 +136,7 @@ fn read_request<'a, T: AsStr>(
     }
 }
 
-// Returns the request of the subcommand that `clap` matched, or an error if it misuses an option; `None` without a subcommand.
+// Returns the request of the subcommand that `clap` matched, or an error if options are misused. Returns `None` if there is no subcommand.
 fn matched_request<'a>(
     alloc: Global,
     matches: &ArgMatches<'a>,
@@ -150,7 +150,7 @@ fn matched_request<'a>(
     }
 }
 
-// Returns the request of the subcommand `name` with these values, or an error if they misuse an option.
+// Returns the request of the subcommand `name` with these values, or an error if options are misused.
 fn subcommand_request<'a>(
     alloc: Global,
     name: &str,

@@ -18,62 +18,62 @@ use rv_cli::limits::{MAX_BUDGET, MAX_GROUP, MAX_JOBS, MAX_WORKERS};
 use rv_cli::values::{argument_values, is_flag_set, is_option_given, number_value, text_value};
 use std::alloc::{AllocError, Global};
 
-/// The arguments of `run`. Those of `list`, `accept`, `cover` and `profile` contain them, too.
+/// The arguments of `run`. The commands `list`, `accept`, `cover` and `profile` use the same structure.
 #[derive(Drop)]
 pub struct RunArgs<'a> {
     /// The path of the job list.
     pub list: &'a str,
-    /// The exact names of the chosen jobs.
+    /// The names of jobs to choose.
     pub only: Vec<&'a str>,
-    /// A regular expression: jobs whose names it matches are chosen.
+    /// A regular expression: jobs in whose names it is found are chosen.
     pub pattern: Option<&'a str>,
-    /// A regular expression: jobs whose names it matches are left out.
+    /// A regular expression: jobs in whose names it is found are left out.
     pub exclude: Option<&'a str>,
-    /// The path of a report: jobs that failed in it are chosen.
+    /// The path of a report: the jobs that failed in it are chosen.
     pub failed: Option<&'a str>,
-    /// Whether the report of `failed` may be truncated.
+    /// Whether the report of `failed` can be truncated.
     pub partial: bool,
     /// The shard of the list to run, as `K/N`.
     pub shard: Option<&'a str>,
-    /// The stamp of the run that the shard belongs to.
+    /// The stamp of the run to which the shard belongs.
     pub stamp: Option<&'a str>,
-    /// The largest number of threads, from 1 to 64; `None` for one per processor.
+    /// The maximum number of threads, from 1 to 64; `None` for one per processor.
     pub workers: Option<u32>,
-    /// The number of jobs in a chunk, which a thread takes at a time, from 1 to 4,096.
+    /// The number of consecutive jobs that a thread claims at once, from 1 to 4,096.
     pub group: u32,
-    /// The step budget that overrides that of each job in the list, from 1 to 1,000,000,000.
+    /// The step budget that overrides each job's own, from 1 to 1,000,000,000.
     pub budget: Option<u32>,
     /// The directory against which the paths in the list are resolved.
     pub root: Option<&'a str>,
-    /// The path of the report of the whole list that the rows update.
+    /// The path of a report of the whole list, which is updated with the rows of this run.
     pub into: Option<&'a str>,
     /// The path of the report to write; `-` is standard output.
     pub report: Option<&'a str>,
     /// The path of the JUnit XML to write; `-` is standard output.
     pub junit: Option<&'a str>,
-    /// The name of the JUnit suite; `None` derives it from the path of the list.
+    /// The name of the JUnit suite; if `None`, it is derived from the path of the list.
     pub suite: Option<&'a str>,
-    /// Whether only unmet expectations are failures.
+    /// Whether only unmet expectations count as failures, and no other ends.
     pub lenient: bool,
-    /// The path of the table of counts: to write for `run`, where `-` is standard output, and to read for `cover` and `profile`.
+    /// The path of a table of counts: `run` writes it, and `-` is standard output; `cover` and `profile` read it.
     pub counts: Option<&'a str>,
-    /// Whether the table of counts has call stacks, too.
+    /// Whether to count call stacks, too.
     pub stacks: bool,
-    /// The path of the file that lists the jobs that are known to fail.
+    /// The path of the file that lists the jobs known to fail.
     pub known: Option<&'a str>,
     /// The number of failures after which the run stops, from 1 to 4,096.
     pub stop_after: Option<u32>,
-    /// Whether passing jobs are shown, too.
+    /// Whether to show the jobs that pass, too.
     pub verbose: bool,
-    /// Whether only the last line is shown.
+    /// Whether to show only the last line.
     pub quiet: bool,
-    /// The number of last instructions of each failed job that are shown, up to 100,000.
+    /// The number of last instructions to show of each failed job, up to 100,000.
     pub last: Option<u32>,
-    /// When results are coloured: `always`, `never` or `auto`; `None` means `auto`.
+    /// When to color the output: `always`, `never` or `auto`; `None` means `auto`.
     pub color: Option<&'a str>,
 }
 
-/// Returns the request of `run` with these values, or an error if they misuse an option.
+/// Returns the request of `run` with these values, or an error if options are misused.
 pub(crate) fn rvtest_run_request<'a>(
     alloc: Global,
     values: &ArgMatches<'a>,
@@ -87,7 +87,7 @@ pub(crate) fn rvtest_run_request<'a>(
     }
 }
 
-// Returns the request of `run` with these values, which misuse no option.
+// Returns the request of `run` with these values, in which no option is misused.
 fn valid_run_request<'a>(
     alloc: Global,
     values: &ArgMatches<'a>,
@@ -103,7 +103,8 @@ fn valid_run_request<'a>(
     Ok(Some(Request::Run(run_args(alloc, values, list, group)?)))
 }
 
-/// Returns the arguments of a command that runs jobs of `list` in chunks of `group` jobs, with its options taken from `values`.
+/// Returns the arguments of a command that runs jobs of `list`, of which a thread claims `group` at once. The other arguments are in
+/// `values`.
 #[tactic(auto, unfolding(crate::specs::RvtestArgs::run_options))]
 pub(crate) fn run_args<'a>(
     alloc: Global,
@@ -144,7 +145,7 @@ pub(crate) fn run_args<'a>(
     })
 }
 
-// Returns the first misuse of the options of `run`; `None` if there is no misuse.
+// Returns the first misuse of the options of `run`, or `None` if there is none.
 fn run_misuse(values: &ArgMatches<'_>) -> Option<Misuse>
     ensures { result ≡ run_misuse (rows_of (found_of values.now)) }
 {
@@ -191,7 +192,7 @@ fn is_report_given(values: &ArgMatches<'_>) -> bool
     is_option_given(values, "report") || is_option_given(values, "into")
 }
 
-// Whether `--into` is combined with `--report` or `--shard`, which would write the rows a second time.
+// Whether `--into` is combined with `--report` or `--shard`, so that the rows would go to two reports.
 fn are_rows_written_twice(values: &ArgMatches<'_>) -> bool
     ensures { result ≡ are_rows_written_twice (rows_of (found_of values.now)) }
 {
@@ -206,7 +207,7 @@ fn is_into_stdout(values: &ArgMatches<'_>) -> bool
     is_into_path(values, "-")
 }
 
-// Whether `--report` and `--failed` name the same path, so that the new report would replace the old one and lose the rows of jobs that do
+// Whether `--report` and `--failed` have the same path, so that the new report would replace the old one and lose the rows of jobs that do
 // not run.
 fn is_failed_report_overwritten(values: &ArgMatches<'_>) -> bool
     ensures { result ≡ is_failed_report_overwritten (rows_of (found_of values.now)) }

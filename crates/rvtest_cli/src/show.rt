@@ -16,19 +16,19 @@ use std::alloc::Global;
 pub struct ShowArgs<'a> {
     /// The path of the report.
     pub report: &'a str,
-    /// Whether the report may be truncated.
+    /// Whether the report can be truncated.
     pub partial: bool,
     /// The path of the JUnit file; `-` is standard output.
     pub junit: Option<&'a str>,
-    /// The name of the JUnit suite; `None` derives it from the report's path.
+    /// The name of the JUnit suite; if `None`, it is derived from the report's path.
     pub suite: Option<&'a str>,
-    /// Whether only unmet expectations are failures.
+    /// Whether only unmet expectations count as failures, and no other ends.
     pub lenient: bool,
-    /// When results are coloured: `always`, `never` or `auto`; `None` means `auto`.
+    /// When to color the output: `always`, `never` or `auto`; `None` means `auto`.
     pub color: Option<&'a str>,
 }
 
-/// Returns the request of `show` with these values, or an error if they misuse an option.
+/// Returns the request of `show` with these values, or an error if options are misused.
 pub(crate) fn show_request<'a>(
     alloc: Global,
     values: &ArgMatches<'a>,
@@ -42,7 +42,7 @@ pub(crate) fn show_request<'a>(
     }
 }
 
-// Returns the request of `show` with these values, which misuse no option.
+// Returns the request of `show` with these values, in which no option is misused.
 fn valid_show_request<'a>(values: &ArgMatches<'a>) -> Option<Request<'a>>
     ensures { IsRequestFor (show_request (rows_of (found_of values.now))) result }
 {

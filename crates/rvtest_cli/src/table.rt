@@ -1,4 +1,4 @@
-//! The command line of `rvtest` as a table: its commands, each with its arguments and their help.
+//! The command line of `rvtest` as a table: its commands, with their arguments and help.
 
 use crate::arguments::{Argument, NumberRange};
 use crate::command::Subcommand;
@@ -12,7 +12,7 @@ pub(crate) const COMMANDS: [Subcommand<'static>; 14] = [
     HELP,
 ];
 
-/// Returns the range of the numbers that the option `name` accepts; `None` if its value is not a number.
+/// Returns the range of numbers that the option `name` accepts, or `None` if its value is not a number.
 pub(crate) fn number_range(name: &str) -> Option<NumberRange> {
     if name == "group" {
         return Some(GROUP_BOUNDS);

@@ -1,7 +1,7 @@
-//! The texts of the errors of `clap`.
+//! The texts of errors of `clap`.
 //!
-//! `clap` explains how an unknown word is passed as a value, which no command accepts, and suggests an option that is only slightly similar
-//! when another was meant. Of a value that is not a number, it does not say which numbers are accepted.
+//! For an unknown word, `clap` explains how to pass it as a value, which no command accepts, and suggests options that are only slightly
+//! similar. For a value that is not a valid number, it does not say which numbers are valid. Here these texts are improved.
 
 use crate::arguments::NumberRange;
 use crate::table::number_range;
@@ -11,7 +11,7 @@ use rv_text::{Span, push_spans};
 use std::alloc::{AllocError, Global};
 use strsim::levenshtein;
 
-/// What the first word after the program's name should be.
+/// What the first argument should be.
 #[derive(Clone, Copy)]
 pub(crate) enum FirstArgument {
     Command,
@@ -19,8 +19,8 @@ pub(crate) enum FirstArgument {
     Topic,
 }
 
-/// Returns the text to print for an error of `clap`. Of its tips, only one that suggests an option is kept, and only if at most a third of
-/// that option's letters differ from the option that the user wrote. The help and the version are left unchanged.
+/// Returns the text to print for an error of `clap`. The only tip that is kept is a suggested option, if at most a third of its letters
+/// differ from the option that was given. The help and the version are unchanged.
 pub(crate) fn error_text(
     alloc: Global,
     error: &Error,
@@ -34,8 +34,8 @@ pub(crate) fn error_text(
     }
 }
 
-// Returns the text of an error without misleading tips. Since the words that it quotes may contain any characters, each line is made
-// printable.
+// Returns the text of an error without misleading tips. Each line is made printable, since the arguments that it quotes can have any
+// characters.
 fn text_with_tips(alloc: Global, told: &str, first: FirstArgument) -> Result<String, AllocError> {
     let written = unknown_option(told);
     let mut text = Vec::new(alloc);
@@ -54,7 +54,7 @@ fn text_with_tips(alloc: Global, told: &str, first: FirstArgument) -> Result<Str
     Ok(String::from_utf8(text).unwrap_or(String::new(alloc)))
 }
 
-// Appends a line of an error; if it rejects a number, the explanation of `clap` is replaced by the range of valid numbers.
+// Appends a line of an error. If it rejects a number, the explanation of `clap` is replaced by the range of valid numbers.
 fn push_line(text: &mut Vec<u8>, line: &str) -> Result<(), AllocError> {
     match rejected_number(line) {
         Some((front, option, bounds)) => push_spans(
@@ -74,8 +74,8 @@ fn push_line(text: &mut Vec<u8>, line: &str) -> Result<(), AllocError> {
     }
 }
 
-// If a line rejects a number, returns the line up to the rejected value, the option, and the range of numbers that the option accepts;
-// otherwise `None`.
+// If a line rejects the number given for an option, returns the line up to the end of the number, the name of the option, and the range of
+// numbers that it accepts. Otherwise returns `None`.
 fn rejected_number(line: &str) -> Option<(&str, &str, NumberRange)> {
     let (front, behind) = line.rsplit_once("' for '--")?;
     let (option, _) = behind.split_once(" <N>': ")?;
@@ -87,7 +87,7 @@ fn rejected_number(line: &str) -> Option<(&str, &str, NumberRange)> {
     }
 }
 
-// Appends a tip before the usage, if the unknown word in an error is probably the name of a job or the topic `keys`.
+// Appends a tip before the usage if an error is about an unknown word that could be the name of a job, or a misspelled topic `keys`.
 fn push_tip(
     alloc: Global,
     text: &mut Vec<u8>,
@@ -116,12 +116,13 @@ fn push_tip(
     Ok(())
 }
 
-// Whether the word may be the name of a job: it is a valid name, and does not begin with `-`.
+// Whether a word could be the name of a job: it is a valid name and does not begin with `-`.
 fn is_job_name(word: &str) -> bool {
     is_name(word.as_bytes()) && !word.starts_with("-")
 }
 
-// If `told` begins with `front` and has `behind` after that, returns the text between them; otherwise an empty text.
+// Returns the text between `front` and `behind` if `told` begins with `front` and contains `behind` after that. Otherwise returns an empty
+// text.
 fn text_between<'a>(told: &'a str, front: &str, behind: &str) -> &'a str {
     match told.strip_prefix(front) {
         Some(rest) => match rest.split_once(behind) {
@@ -132,7 +133,7 @@ fn text_between<'a>(told: &'a str, front: &str, behind: &str) -> &'a str {
     }
 }
 
-// Returns the unknown option that an error rejects, without its dashes; an empty text if it rejects none.
+// Returns the unknown option that an error is about, without its dashes. Otherwise returns an empty text.
 fn unknown_option(told: &str) -> &str {
     match told.split_once("'--") {
         Some((_, behind)) => match behind.split_once("' found") {

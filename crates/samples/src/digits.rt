@@ -7,7 +7,7 @@ use thiserror::Error;
 /// Why a text does not describe bytes or a file.
 #[derive(Clone, Copy, Debug, Error, PartialEq, Eq)]
 pub enum SampleError {
-    /// There are no digits, or an odd number of them.
+    /// There are no digits, an odd number of them, or another character.
     #[error("bad digits")]
     BadDigits,
     /// An offset or a count is not a number.
@@ -25,14 +25,14 @@ pub enum SampleError {
 }
 
 impl From<AllocError> for SampleError {
-    // Returns `OutOfMemory`.
+    // Converts a failed allocation to `OutOfMemory`.
     fn from(_: AllocError) -> SampleError {
         SampleError::OutOfMemory
     }
 }
 
 impl From<FromHexError> for SampleError {
-    // Returns the error of a sample whose hexadecimal digits have this error.
+    // Converts an error in hexadecimal digits.
     fn from(error: FromHexError) -> SampleError {
         match error {
             FromHexError::OutOfMemory => SampleError::OutOfMemory,
@@ -41,11 +41,11 @@ impl From<FromHexError> for SampleError {
     }
 }
 
-// The exit call with the code in x10: 93 into x17, and ECALL.
+// The bytes of the exit call, which ends the run with the exit code in x10: load 93 into x17, then ECALL.
 const EXIT: [u8; 8] = [0x93, 0x08, 0xd0, 0x05, 0x73, 0x00, 0x00, 0x00];
 
-/// Returns the bytes of hexadecimal numbers that are separated by spaces, each little-endian, such as words of eight digits and halfwords
-/// of four. `0001*3` is 0001 three times, and `X` is the two instructions of the exit call.
+/// Returns the bytes of hexadecimal numbers that are separated by spaces, each in little-endian order; words have eight digits and
+/// halfwords four. `0001*3` is the number 0001 three times, and `X` is the two instructions of the exit call.
 pub fn numbers(alloc: Global, text: &str) -> Result<Vec<u8>, SampleError> {
     let mut bytes = Vec::new(alloc);
     for number in text.split(' ') {
@@ -58,7 +58,7 @@ pub fn numbers(alloc: Global, text: &str) -> Result<Vec<u8>, SampleError> {
     Ok(bytes)
 }
 
-// Appends the bytes of a number, little-endian; with a count after `*`, that many times.
+// Appends the bytes of a number in little-endian order; if it ends with `*` and a count, so many times.
 fn push_number(alloc: Global, bytes: &mut Vec<u8>, number: &str) -> Result<(), SampleError> {
     let (number, count) = number.split_once('*').unwrap_or((number, "1"));
     let Ok(count) = count.parse::<u32>() else {
@@ -72,7 +72,7 @@ fn push_number(alloc: Global, bytes: &mut Vec<u8>, number: &str) -> Result<(), S
     Ok(())
 }
 
-/// Returns the bytes that groups of hexadecimal digits, separated by spaces, encode, in the order of the digits.
+/// Returns the bytes of groups of hexadecimal digits that are separated by spaces, in the order in which they are written.
 pub fn file_bytes(alloc: Global, text: &str) -> Result<Vec<u8>, SampleError> {
     let mut bytes = Vec::new(alloc);
     for group in text.split(' ') {

@@ -1,10 +1,10 @@
-//! Image files described by a line of words: a sample, with the changes that the words describe.
+//! Image files that a line of words describes: a sample file with changes.
 
 use crate::digits::{SampleError, file_bytes, numbers};
 use crate::images::{ONE_SEGMENT, SIGNATURE, TWO_SEGMENTS};
 use std::alloc::Global;
 
-// The offset of the only segment's bytes, and the offsets of its sizes in the file and in memory.
+// The offset of the segment in the file of `ONE_SEGMENT`, and the offsets of the fields with its sizes in the file and in memory.
 const CODE: usize = 84;
 
 const FILE_SIZE: usize = 68;
@@ -27,7 +27,7 @@ pub fn sample_file(alloc: Global, text: &str) -> Result<Vec<u8>, SampleError> {
     }
 }
 
-// Returns the file of an image whose only segment has these numbers as its bytes.
+// Returns the file of an image whose only segment consists of these numbers.
 fn program_file(alloc: Global, text: &str) -> Result<Vec<u8>, SampleError> {
     let code = numbers(alloc, text)?;
     let Ok(size) = u32::try_from(code.len()) else {
@@ -40,7 +40,7 @@ fn program_file(alloc: Global, text: &str) -> Result<Vec<u8>, SampleError> {
     Ok(bytes)
 }
 
-// Returns a file with these changes, which have the form that `sample_file` describes.
+// Returns the file after these changes, which are written as `sample_file` says.
 fn with_changes(alloc: Global, file: &[u8], changes: &str) -> Result<Vec<u8>, SampleError> {
     let mut bytes = file.to_vec(alloc)?;
     for change in changes.split(' ') {
@@ -62,7 +62,7 @@ fn parse_count(text: &str) -> Result<usize, SampleError> {
     }
 }
 
-// Overwrites the bytes from index `start` on with a field; returns an error if the field extends past the end.
+// Overwrites the bytes from index `start` with those of a field; returns an error if the field extends past the end.
 fn overwrite(bytes: &mut Vec<u8>, start: usize, field: &[u8]) -> Result<(), SampleError> {
     for (index, byte) in field.iter().enumerate() {
         match bytes.get_mut(start.saturating_add(index)) {

@@ -1,4 +1,4 @@
-//! Images, numbers and lines of tables for the tests of several crates. The program uses none of it.
+//! Images, numbers and lines of tables for the tests of several crates. No program uses them.
 #![tactic(auto)]
 
 mod digits;

@@ -1,9 +1,9 @@
-//! Lines of tables: their cells are separated by bars.
+//! Lines of tables, whose cells are separated by bars.
 
 use std::num::ParseIntError;
 use std::test::Fail;
 
-/// Returns the cell of a line with this index, from 0, without the spaces around it; empty if there are fewer cells.
+/// Returns the cell at this index of a line, without spaces around it; an empty text if there are fewer cells.
 pub fn cell_of(line: &str, index: usize) -> &str {
     line.split('|').nth(index).unwrap_or("").trim()
 }
@@ -13,7 +13,7 @@ pub fn hex_of(text: &str) -> Result<u32, ParseIntError> {
     u32::from_str_radix(text, 16)
 }
 
-/// Returns an error that names the row and both results if the actual result differs from the expected one.
+/// Returns an error with the row and both results if the actual result differs from the expected one.
 pub fn check_equal(row: &str, actual: &str, expected: &str) -> Result<(), Fail> {
     if actual == expected {
         Ok(())

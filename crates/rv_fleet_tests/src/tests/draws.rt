@@ -1,4 +1,4 @@
-//! Draws by one pass and by several, in one thread and in four.
+//! Draws of chunks by one pass and by several, in one thread and in four.
 ghost use Rattle.std.specs.Prelude.{◌≡◌, IfOk, IfSome};
 
 use super::number_in;
@@ -9,7 +9,7 @@ use std::test::Fail;
 use std::thread;
 use std::thread::Threads;
 
-// Splits a pass in two; `None` if no pass index is free.
+// Splits a pass in two; `None` if all pass indices are used.
 pub(super) fn split_pass(claims: &Claims, pass: Pass) -> Option<(Pass, Pass)>
     requires { pass.draw ≡ claims.now }
     ensures first { IfSome result (λ passes. passes.0.draw ≡ claims.now) }
@@ -21,7 +21,8 @@ pub(super) fn split_pass(claims: &Claims, pass: Pass) -> Option<(Pass, Pass)>
     }
 }
 
-// Appends the response of a pass: whether it has ended if the request ends with a question mark, else the number that it draws, or `none`.
+// Appends the answer of a pass to a request: whether the pass has ended if the request ends with a question mark, else the number that it
+// draws, or `none`.
 fn push_response(
     text: &mut String,
     claims: &Claims,
@@ -44,7 +45,7 @@ fn push_response(
     }
 }
 
-// Appends the responses of a pass to requests that are separated by spaces.
+// Appends the answers of a pass to requests that are separated by spaces.
 fn push_responses(
     text: &mut String,
     claims: &Claims,
@@ -60,7 +61,7 @@ fn push_responses(
     Ok(())
 }
 
-// Appends the responses of two passes to requests that are separated by spaces: those to the second pass begin with `q`.
+// Appends the answers of two passes to requests that are separated by spaces: `q` is the first letter of those to the second pass.
 fn push_responses_of_both(
     text: &mut String,
     claims: &Claims,
@@ -83,8 +84,8 @@ fn push_responses_of_both(
     Ok(())
 }
 
-// Makes one pass of two, as `end` says: joins them (`join`), lets them meet and joins them (`meet, join`), or lets them meet and drops the
-// second.
+// Makes one pass of two, as `end` says: joins them (`join`), calls `meet`, which changes neither, and joins them (`meet, join`), or calls
+// `meet` and drops the second.
 fn one_pass_of(claims: &Claims, first: Pass, second: Pass, end: &str) -> Pass
     requires first { first.draw ≡ claims.now }
     requires second { second.draw ≡ claims.now }
@@ -100,7 +101,7 @@ fn one_pass_of(claims: &Claims, first: Pass, second: Pass, end: &str) -> Pass
     first
 }
 
-// Splits a pass in two, appends the responses of both, and makes one pass of them, as `end` says.
+// Splits a pass in two, appends the answers of both, and makes one pass of them, as `end` says.
 fn split_and_merge(
     text: &mut String,
     claims: &Claims,
@@ -118,7 +119,7 @@ fn split_and_merge(
     Ok(one_pass_of(claims, first, second, end))
 }
 
-// Splits a pass and joins the two until no pass index is free. Appends how often, and returns the pass.
+// Splits a pass and joins the two until all pass indices are used. Appends how often, and returns the pass.
 fn fill(text: &mut String, claims: &Claims, mut pass: Pass) -> Result<Pass, AllocError>
     requires { pass.draw ≡ claims.now }
     ensures { IfOk result (λ pass. pass.draw ≡ claims.now) }
@@ -135,7 +136,7 @@ fn fill(text: &mut String, claims: &Claims, mut pass: Pass) -> Result<Pass, Allo
     Ok(pass)
 }
 
-// Handles a pass as the fifth cell of a line says: `alone` leaves it unchanged, `fill` splits and joins it until no pass index is free, and
+// Changes a pass as the fifth cell of a line says: `alone` does nothing, `fill` splits and joins it until all pass indices are used, and
 // anything else splits it once.
 fn handle_pass(text: &mut String, claims: &Claims, pass: Pass, line: &str) -> Result<Pass, Fail>
     requires { pass.draw ≡ claims.now }
@@ -148,7 +149,7 @@ fn handle_pass(text: &mut String, claims: &Claims, pass: Pass, line: &str) -> Re
     }
 }
 
-// Appends the responses of the passes of a line, and returns the remaining pass.
+// Appends the answers of the passes of a line, and returns the last pass.
 fn push_all(text: &mut String, claims: &Claims, mut pass: Pass, line: &str) -> Result<Pass, Fail>
     requires { pass.draw ≡ claims.now }
     ensures { IfOk result (λ pass. pass.draw ≡ claims.now) }
@@ -159,7 +160,7 @@ fn push_all(text: &mut String, claims: &Claims, mut pass: Pass, line: &str) -> R
     Ok(pass)
 }
 
-// Returns the responses of the passes of a shared draw of at most 4,096 chunks, and whether the last pass holds every pass index.
+// Returns the answers of the passes that draw at most 4,096 chunks, and whether the last pass holds every pass index.
 pub(super) fn result_text(alloc: Global, line: &str) -> Result<String, Fail> {
     let (claims, pass) = Claims::new(alloc, number_in(line, 1).min(4096))?;
     let mut text = String::new(alloc);
@@ -170,9 +171,9 @@ pub(super) fn result_text(alloc: Global, line: &str) -> Result<String, Fail> {
 }
 
 // label | chunks | requests to the first pass | to the two that it is split into, p and q | how they become one | requests to that one |
-// the responses, and whether it holds every pass index at the end. `p?` asks whether a pass has ended. A pass that has ended can be split
-// like any other: the new one has an index of its own and no draws, and ends with its own draw. There are 64 pass indices, and a further
-// split returns the pass.
+// the answers, and whether it holds every pass index at the end. `p?` asks whether a pass has ended. A pass that has ended can be split
+// like any other: the new one has an index of its own and no draws, and ends with its own draw. There are 64 pass indices; once they are
+// used, a split returns the pass.
 pub(super) const DRAWS: &str = "\
 two passes draw three pieces | 3 | | p q p p? q p | join | p? p | 0 1 2 false none none true none true
 no piece ends the first pass | 0 | p p? | | alone | | none true true
@@ -184,8 +185,8 @@ places run out | 1 | p | | fill | p? p | 0 63 splits false none true";
 /// The number of chunks that the threads draw.
 const PIECES: u64 = 1000;
 
-/// Draws until no chunk is left, and returns the pass and the numbers drawn. Here and below, the result is `None` if memory or a pass index
-/// is missing.
+/// Draws until no chunk is left, and returns the pass and the numbers drawn. Here and below, the result is `None` if memory ran out or all
+/// pass indices are used.
 fn draw_all(alloc: Global, claims: &Claims, mut pass: Pass) -> Option<(Pass, Vec<u64>)>
     requires { pass.draw ≡ claims.now }
     ensures { IfSome result (λ both. both.0.draw ≡ claims.now) }

@@ -1,4 +1,4 @@
-//! Fleets of small jobs, and runs of a choice of them, with a gate that shows which chunks ran at the same time.
+//! Fleets of small jobs, and batches of selected ones, with a gate that shows which chunks run at the same time.
 ghost use Rattle.std.specs.List.Sorted.{IsStrictlyIncreasing};
 ghost use Rattle.rv_fleet.specs.JobIndices.{AreJobIndices};
 
@@ -11,9 +11,9 @@ use std::sync::Wait;
 use std::test::Fail;
 use std::thread::Threads;
 
-// label | budgets | the selected jobs | workers | group | `fleet` runs all jobs with a gate, `batch` the selected jobs without one | how
-// many of the first chunks wait at the gate | for how many chunks to enter | the rows, how often each chunk entered, and whether one waited
-// in vain
+// label | budgets | the selected jobs | workers | jobs claimed at once | `fleet` runs all jobs with a gate, `batch` the selected jobs
+// without one | how many of the first chunks wait at the gate | for how many chunks they wait | the rows, how often each chunk entered, and
+// whether one waited in vain
 pub(super) const RUNS: &str = "\
 the first waits for the second | 3 3 | xx | 2 | 1 | fleet | 1 | 2 | \
     j0 Exit(5) 2, j1 Exit(5) 2, entered 11, late false
@@ -29,7 +29,7 @@ pieces of two | 3 3 3 3 | xx.x | 64 | 2 | batch | | | j0 Exit(5) 2, j1 Exit(5) 2
 the last job | 3 3 3 3 | ...x | 1 | 4096 | batch | | | j3 Exit(5) 2, entered 0, late false
 none | 3 3 3 3 | .... | 4 | 1 | batch | | | entered 0, late false";
 
-// Runs the plan of a line, all of it by a fleet or the selected jobs by a batch, and returns the rows.
+// Runs all jobs of a line as a fleet, or the selected ones as a batch, and returns the rows.
 fn rows_of_run<R: Threads + Wait + Sync>(
     rt: &R,
     alloc: Global,
@@ -50,7 +50,7 @@ fn rows_of_run<R: Threads + Wait + Sync>(
     Ok(run_batch(&crew, &Batch::new(plan, indices))?)
 }
 
-/// Returns the rows of a line's run, and what its gate recorded.
+/// Returns the rows of the run of a line, and what its gate recorded.
 pub(super) fn result_text<R: Threads + Wait + Sync>(
     rt: &R,
     alloc: Global,

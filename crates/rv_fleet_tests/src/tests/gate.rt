@@ -5,14 +5,15 @@ use std::alloc::AllocError;
 use std::sync::atomic::{AtomicBool, AtomicU64, Ordering};
 use std::thread;
 
-/// How often a chunk yields at the gate before it has waited in vain.
+/// How often a chunk yields at the gate until it gives up waiting.
 const TURNS: u64 = 100_000_000;
 
-// What an entry of each of the first chunks adds to the count: each chunk has its own decimal digit, the first chunk the last one.
+// What is added to the count when each of the first chunks enters: each chunk has a decimal digit of its own, the first chunk the last
+// digit.
 const DIGITS: [u64; 4] = [1, 10, 100, 1000];
 
-/// A gate that counts the entries of each of four chunks. The first `held` chunks wait until as many have entered as are `awaited`, and
-/// `late` is set if one waits in vain.
+/// A gate that counts the entries of each of four chunks. The first `held` chunks wait until `awaited` chunks have entered; `late` is set
+/// if one gives up waiting.
 #[derive(Drop)]
 pub(super) struct RecordingGate {
     held: u64,
@@ -24,7 +25,7 @@ pub(super) struct RecordingGate {
 }
 
 impl RecordingGate {
-    /// Returns the gate that a line describes: how many chunks wait at it, and for how many other chunks.
+    /// Returns the gate of a line, which says how many chunks wait, and for how many.
     pub(super) fn of(line: &str) -> RecordingGate {
         RecordingGate {
             held: number_in(line, 6),

@@ -1,4 +1,4 @@
-//! Which outcomes of its last jobs a worker caches, by the sizes of their consoles and signatures.
+//! Which outcomes of its last jobs a worker caches, which depends on the sizes of console output and signatures.
 ghost use Rattle.std.specs.Prelude.{◌<◌, length};
 
 use super::{number_in, plan_in};
@@ -13,7 +13,7 @@ fn words_of(alloc: Global, count: usize) -> Result<Words, AllocError> {
     Ok(Words::new(vec![in alloc; 0u32; count]?))
 }
 
-// Returns an outcome whose console has this many bytes or, after a `w`, whose signature has this many words.
+// Returns an outcome with so many bytes of console output or, after a `w`, so many words of signature.
 fn outcome_of(alloc: Global, size: &str) -> Result<Outcome, Fail> {
     let (size, signature) = match size.strip_prefix('w') {
         Some(count) => (0, Some(words_of(alloc, count.parse::<usize>()?)?)),
@@ -27,7 +27,7 @@ fn outcome_of(alloc: Global, size: &str) -> Result<Outcome, Fail> {
     })
 }
 
-// Caches an outcome of this size for the job at an index, if it is small enough.
+// Caches an outcome of this size for the job at an index if it is small enough.
 fn cache_outcome(
     alloc: Global,
     recent: &mut RecentOutcomes,
@@ -74,7 +74,7 @@ too great | 1 64001 2 | 0 2
 a signature of all the room | 1 w16000 | 1
 a signature of a word more | 1 w16001 2 | 0 2";
 
-// Two jobs with a signature, of 16,000 words and of one more, each followed by a job that is compared with it.
+// Two jobs with a signature, one of 16,000 words and one of a word more, each followed by a job that is compared with it.
 const COMPARED_JOBS: &str = "\
 [[job]]
 name = 'j0'
@@ -98,7 +98,7 @@ budget = 100
 same_as = 'j2'
 ";
 
-// Makes the row of the job at an index, and returns whether the outcome of the preceding job, which is run for the comparison, is then
+// Makes the row of the job at an index, and returns whether the outcome of the job before it, which runs for the comparison, is then
 // cached.
 fn caches_preceding_outcome(alloc: Global, plan: &Plan, index: usize) -> Result<bool, Fail>
     requires { index < length plan.now.jobs }
@@ -108,7 +108,7 @@ fn caches_preceding_outcome(alloc: Global, plan: &Plan, index: usize) -> Result<
     Ok(recent.find(index.saturating_sub(1)).is_some())
 }
 
-// Makes the row of the job at this index of `COMPARED_JOBS`, and returns whether the outcome of the preceding job is then cached.
+// Makes the row of the job at this index of `COMPARED_JOBS`, and returns whether the outcome of the job before it is then cached.
 fn is_preceding_outcome_cached(alloc: Global, index: usize) -> Result<bool, Fail> {
     let plan = plan_in(alloc, COMPARED_JOBS)?;
     if plan.jobs() <= index {
@@ -117,13 +117,13 @@ fn is_preceding_outcome_cached(alloc: Global, index: usize) -> Result<bool, Fail
     caches_preceding_outcome(alloc, &plan, index)
 }
 
-// label | the index of a job of `COMPARED_JOBS` | whether the outcome of the job that it names is cached: the signature of a run counts
-// before its words are copied
+// label | the index of a job of `COMPARED_JOBS` | whether the outcome of the job with which it is compared is cached, which depends on the
+// size of the signature before its words are copied
 pub(super) const CACHED_FOR_COMPARISON: &str = "\
 16,000 words | 1 | true
 one more | 3 | false";
 
-/// Returns as text whether the outcome of the job that the job in a line names is cached.
+/// Returns as text whether the outcome of the job with which the job of a line is compared is cached.
 pub(super) fn comparison_text(alloc: Global, line: &str) -> Result<String, Fail> {
     let is_cached = is_preceding_outcome_cached(alloc, number_in(line, 1) as usize)?;
     Ok(format!(in alloc; "{is_cached}")?)

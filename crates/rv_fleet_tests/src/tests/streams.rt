@@ -1,4 +1,4 @@
-//! Streams of small jobs: which jobs, with how many workers, which writes fail, and the output.
+//! Streams of small jobs: which jobs, with how many workers, which write fails, and the output.
 ghost use Rattle.std.specs.Prelude.{None};
 
 use super::{number_in, plan_and_indices_of, workers_and_group_of};
@@ -15,7 +15,7 @@ use std::sync::atomic::{AtomicU64, Ordering};
 use std::test::Fail;
 use std::thread::Threads;
 
-/// Reports the name of each row of two or more steps, and nothing for others; counts the rows whose text was requested.
+/// Reports the name of each row with two or more steps, and nothing for other rows; counts the rows whose text was requested.
 #[derive(Drop)]
 struct Names<'a> {
     requested: &'a AtomicU64,
@@ -26,7 +26,7 @@ impl<'a> RowReporter for Names<'a> {
 
     ghost line = { λ _ _ row. if nat_lt row.steps 2 then [] else (row.name ++ (59 ∷ [])) };
 
-    // Appends the text that the tests use for a row.
+    // Appends the name of the row, as a line, if it has two or more steps.
     fn push_row_text(
         &self,
         _alloc: Global,
@@ -54,19 +54,19 @@ impl Observer<ReportedRow> for Unobserved {
 
     ghost stops = { λ _. ⊥ };
 
-    // Does nothing, and returns that the run should continue.
+    // Returns that the run continues.
     fn see(&mut self, _made: &ReportedRow) -> Flow {
         Flow::Continue
     }
 
-    // Does nothing, and returns that the run should continue.
+    // Returns that the run continues.
     fn pause(&mut self) -> Flow {
         Flow::Continue
     }
 }
 
-/// A sink over memory that accepts a limited number of bytes per write, fails at one write, counted from 1, and records at each write how
-/// many rows had been reported.
+/// A sink in memory that accepts a limited number of bytes per write and fails at one write. At each write it records how many rows have
+/// been reported.
 #[derive(Drop)]
 struct RecordingSink<'a> {
     bytes: Vec<u8>,
@@ -79,7 +79,7 @@ struct RecordingSink<'a> {
 }
 
 impl<'a> RecordingSink<'a> {
-    // Creates a sink that accepts at most `max_bytes` bytes per write; its write number `fails_at` fails, or none if that is 0.
+    // Creates a sink that accepts at most `max_bytes` bytes per write. The write number `fails_at`, counted from 1, fails; none if it is 0.
     fn new(
         alloc: Global,
         max_bytes: usize,
@@ -103,7 +103,7 @@ impl<'a> Sink for RecordingSink<'a> {
 
     ghost failure_count = { λ sink. sink.failures };
 
-    // Accepts leading bytes and records how many rows were reported before, or fails if it is the write that must fail.
+    // Accepts the first bytes and records how many rows have been reported, or fails if this is the write that fails.
     fn put(&mut self, bytes: &[u8]) -> Result<usize, SinkFailed> {
         let requested = self.requested.load(Ordering::SeqCst);
         let _ = write!(self.notes, " {requested}");
@@ -122,7 +122,7 @@ impl<'a> Sink for RecordingSink<'a> {
     }
 }
 
-// label | the jobs' budgets | the selected jobs | workers | group | the output
+// label | budgets | the selected jobs | workers | jobs claimed at once | the output
 const STREAMS: &str = "\
 a worker | 3 3 1 3 | xx.x | 1 | 1 | j0;j1;j3;
 four | 3 3 1 3 | xx.x | 4 | 1 | j0;j1;j3;
@@ -136,8 +136,8 @@ no job | 3 3 | .. | 4 | 1 |
 the last job | 3 3 1 3 | ...x | 4 | 1 | j3;
 one behind the other | 3 3 3 3 3 3 3 3 | xxxxxxxx | 4 | 1 | j0;j1;j2;j3;j4;j5;j6;j7;";
 
-// label | budgets | the selected jobs | workers | group | the write that fails, or 0 | the output; how many rows were reported before each
-// write, and in all; and how the call ended
+// label | budgets | the selected jobs | workers | jobs claimed at once | the write that fails, or 0 | the output; how many rows had been
+// reported before each write, and in all; and how the call ended
 pub(super) const WRITES: &str = "\
 each text at once | 3 3 3 | xxx | 1 | 1 | 0 | j0;j1;j2; at 1 2 3 of 3: 3 rows
 pieces of two | 3 3 3 | xxx | 1 | 2 | 0 | j0;j1;j2; at 2 3 of 3: 3 rows
@@ -182,7 +182,7 @@ fn text_of(
     Ok(text)
 }
 
-// Returns the result of streaming the jobs of a line into writes of at most `max_bytes` bytes, of which number `fails_at` fails.
+// Returns the result of streaming the jobs of a line if each write accepts at most `max_bytes` bytes and number `fails_at` fails.
 fn result_text<R: Threads + Wait + Sync>(
     rt: &R,
     alloc: Global,
@@ -223,13 +223,13 @@ pub(super) fn stream_text<R: Threads + Wait + Sync>(
     result_text(rt, alloc, line, usize::MAX, number_in(line, 5))
 }
 
-// Whether exactly the first `sent` bytes of the whole output were written, and the call failed unless these are all bytes.
+// Whether exactly the first `sent` bytes of the whole output were written, and the call failed unless these are all.
 fn is_prefix_of_output(streamed: &str, whole: &str, sent: usize) -> bool {
     let (out, notes) = streamed.split_once(" at").unwrap_or(("", ""));
     whole.get(..sent) == Some(out) && notes.ends_with("write failed") == (sent < whole.len())
 }
 
-// Checks that if each write accepts one byte and one write fails, exactly the bytes before it have been written.
+// Checks that if each write accepts one byte and one write fails, exactly the bytes before it are written.
 fn check_writes<R: Threads + Wait + Sync>(rt: &R, alloc: Global, line: &str) -> Result<(), Fail> {
     let whole = cell_of(line, 5);
     for sent in 0..whole.len() + 1 {

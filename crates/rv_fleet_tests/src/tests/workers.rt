@@ -1,4 +1,4 @@
-//! Single workers: which chunks they make, and what their gate records.
+//! Single workers: which chunks they compute, and what their gate records.
 ghost use Rattle.std.specs.Prelude.{◌≡◌, ◌<◌, ◌≤◌, IfOk};
 ghost use Rattle.rv_fleet.specs.Pieces.{piece_count_of_plan};
 
@@ -20,7 +20,7 @@ fn piece_count(plan: &Plan, group: u32) -> u64
     plan.jobs().div_ceil(group as usize) as u64
 }
 
-/// Computes chunks until none is left, and returns the pass and the chunks in the order in which it drew them.
+/// Computes chunks until none is left, and returns the pass and the chunks in the order in which they were drawn.
 fn work_alone(
     alloc: Global,
     claims: &Claims,
@@ -97,7 +97,7 @@ fn pieces_of_workers<R: Threads>(
     work_in_two(rt, alloc, claims, pass, plan, group, gate)
 }
 
-/// The chunks that the workers made, and whether the joined pass has ended and holds every pass index.
+/// The chunks that the workers computed, and whether the joined pass has ended and holds every pass index.
 #[derive(Drop)]
 struct ComputedPieces {
     pieces: Vec<Piece>,
@@ -129,8 +129,7 @@ fn computed_pieces<R: Threads>(
     })
 }
 
-// Appends the number and the rows of a chunk: if one worker drew all chunks, of the chunk at the index `wanted_index`, and otherwise of the
-// chunk with this number.
+// Appends the number and the rows of a chunk: the one at index `wanted_index` if one worker drew all chunks, else the one with this number.
 fn push_piece(
     text: &mut String,
     pieces: &[Piece],
@@ -157,8 +156,8 @@ fn push_pieces(text: &mut String, pieces: &[Piece], alone: bool) -> Result<(), A
     Ok(())
 }
 
-// Returns as text the computed chunks, whether the pass has ended and has every pass index, the order of one worker's chunks, and what the
-// gate recorded.
+// Returns as text the computed chunks, whether the pass has ended and holds every pass index, the order of one worker's chunks, and what
+// the gate recorded.
 fn text_of(
     alloc: Global,
     computed: &ComputedPieces,
@@ -182,8 +181,9 @@ pub(super) fn result_text<R: Threads>(rt: &R, alloc: Global, line: &str) -> Resu
     text_of(alloc, &computed, workers_and_group_of(line).0 == 1, &gate)
 }
 
-// label | budgets | | workers, one or two | group | | how many of the first chunks wait at the gate | for how many chunks to enter | the
-// chunks, whether the joined pass ended and holds every pass index, in which order one worker's chunks entered, and what the gate recorded
+// label | budgets | | workers, one or two | jobs claimed at once | | how many of the first chunks wait at the gate | for how many chunks
+// they wait | the chunks, whether the joined pass has ended and holds every pass index, in which order the chunks of one worker entered,
+// and what the gate recorded
 pub(super) const WORKERS: &str = "\
 two workers | 3 3 3 3 | | 2 | 1 | | 1 | 2 | 4 pieces 0: j0 Exit(5) 2, 1: j1 Exit(5) 2, \
     2: j2 Exit(5) 2, 3: j3 Exit(5) 2, true true 0 entered 1111, late false
