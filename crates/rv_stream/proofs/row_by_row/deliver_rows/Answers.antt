@@ -11,7 +11,7 @@ no_items (x ∷ xs) none = absurd (omega (arith, none))
 pub loop-row-init : goal.loop-row-init
 loop-row-init g c = record {
   received = λ before received. subst (g.L.Listener.has_received c.args.listener.now) (sym (append-nil before)) received;
-  goes = c.requires;
+  goes = c.requires.goes;
   front = refl;
   left = c.into_iter-row-iterator.ensures.into_iter_gives.1 ∙ c.args.rows.ok.0
       ∙ ap length (sym c.into_iter-row-iterator.ensures.into_iter_gives.0);
