@@ -68,7 +68,7 @@ fn check_file(added: Option<Row>, files: FileNumbers) -> Result<(), UnitError>
     }
 }
 
-// Records the span of the row `before`, if a row was added after it. A row that covers no address has no span.
+// Records the source line of the row `before` for the addresses from this row to the row `added`, if both exist.
 fn note_row(
     unit: u32,
     before: Option<Row>,
