@@ -129,7 +129,7 @@ pub(crate) const NEGATIVE_EXIT: Expected = Expected {
     key: "expect_exit",
     before: "expected an integer from 0 to ",
     rest: InsertedText::Maximum(u32::MAX as u64),
-    behind: "; write -1 as 4294967295",
+    behind: "; for example, write -1 as 4294967295",
     bytes: Bytes::Untold,
 };
 
