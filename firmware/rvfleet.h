@@ -1,17 +1,18 @@
-/* What firmware in C, C++ and assembler asks of the simulator: a console with a script, the exit call, and FENCE.I. */
+/* The interface of the simulator for firmware in C, C++ and assembler: a console with scripted input, the exit call, and FENCE.I. */
 #ifndef RVFLEET_H
 #define RVFLEET_H
 
 #ifdef __ASSEMBLER__
 
-/* The addresses of the console: a word load takes the next byte of the script, or all ones at the script's end; a word store
- * prints the low byte. CONSOLE_LEFT is how many bytes of the script are left. */
+/* The addresses of the console. A word load from CONSOLE returns the next byte of the script, or SCRIPT_END at the end of the
+ * script. A word store to CONSOLE prints the low byte. A word load from CONSOLE_LEFT returns how many bytes of the script are
+ * left. */
 #define CONSOLE 0x10000000
 #define CONSOLE_LEFT 0x10000004
 #define SCRIPT_END 0xffffffff
 #define EXIT_CALL 93
 
-/* Ends the run with the code in a0, or with the code that is given. */
+/* Ends the run with the given code, or with the code in a0 if none is given. */
     .macro finish code
     .ifnb \code
     li a0, \code
@@ -20,7 +21,7 @@
     ecall
     .endm
 
-/* FENCE.I, whatever -march says. */
+/* FENCE.I. It can be used with any -march. */
     .macro fence_i
     .insn i 0x0f, 1, x0, x0, 0
     .endm
@@ -31,11 +32,12 @@
 extern "C" {
 #endif
 
-/* A word load takes the next byte of the script, or all ones at the script's end; a word store prints the low byte. */
+/* The console. Reading it returns the next byte of the script, or SCRIPT_END at the end of the script. Writing it prints the low
+ * byte. */
 #define CONSOLE (*(volatile unsigned *)0x10000000)
 #define SCRIPT_END 0xffffffffu
 
-/* How many bytes of the script are left. It is read only. */
+/* The number of bytes of the script that are left (read-only). */
 #define CONSOLE_LEFT (*(const volatile unsigned *)0x10000004)
 
 static inline void print(const char *text)
@@ -53,8 +55,8 @@ __attribute__((noreturn)) static inline void finish(unsigned code)
     __builtin_unreachable();
 }
 
-/* What was stored before this may be run behind it. The instruction is named here for the assembler alone, so that the
- * compiler needs no -march with zifencei, for which Debian's C libraries have no folder. */
+/* Instructions that were stored before this call can be executed after it. Zifencei is enabled only for this instruction, in the
+ * assembler. So -march need not name it: Debian's C libraries have no directory for an -march with zifencei. */
 static inline void fence_i(void)
 {
     __asm__ volatile(".option push\n\t.option arch, +zifencei\n\tfence.i\n\t.option pop" : : : "memory");

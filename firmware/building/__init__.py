@@ -1,1 +1,1 @@
-"""Builds images, and decides from what went into each of them whether it is still up to date."""
+"""Builds images. An image is built again only if something that it depends on has changed."""

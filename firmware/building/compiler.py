@@ -1,6 +1,6 @@
-"""Asks the compiler, in each build, which programs it would run for some options, and by which words.
+"""Asks the compiler, in each build, which programs it would run for given options, and with which arguments.
 
-The compiler itself resolves whatever decides that: PATH and other variables, wrappers, files of specs, and prefixes of -B.
+The compiler itself resolves everything that this depends on: PATH and other variables, wrappers, spec files, and prefixes of -B.
 """
 import contextlib
 import os
@@ -17,24 +17,24 @@ from listing.flags import expanded
 from .digests import digest_of, has_contents
 from .records import maps_in, paths_in_words
 
-# The variables that compilers proper, binutils, their loader and the usual wrappers read. What the driver and the preprocessor read shows
-# in what these print.
+# The variables that compilers proper, binutils, their loader and the usual wrappers read. The variables that the driver and the
+# preprocessor read need not be listed, since they show in the output of these programs.
 VARIABLES = re.compile(r"(?:GCC_(?!COLORS$|URLS$)|COLLECT_|AS_|BINUTILS_|CCACHE_|DISTCC_|LD_|MALLOC_|TARGET_).*"
                        r"|LDEMULATION|GNUTARGET|POSIXLY_CORRECT|GLIBC_TUNABLES|QEMU_LD_PREFIX")
-# ccache must not answer in the compiler's place, and would write no list of the files that the assembler read.
+# ccache is disabled: it must not return a cached object, and it would not write the list of the files that the assembler read.
 UNCACHED = {"CCACHE_DISABLE": "1"}
-# A file that a compiler makes for the next program, and removes. Its name is another one each time.
+# A temporary file that a compiler writes for the next program and then removes. Its name differs each time.
 TEMPORARY = re.compile(r"(?:.*/)?cc[A-Za-z0-9]{6}\.(?:s|o|.*\.o|res)", re.S)
 TEMPORARY_IN_TEXT = re.compile(r"""[^\s"'=]*/cc[A-Za-z0-9]{6}(?=\.)""")
-# Options of the compiler proper by which it reads files that it does not report, or by which its preprocessor does not print what it
-# compiles.
+# Options of the compiler proper with which it reads files that it does not report, or with which its preprocessor does not print the text
+# that is compiled.
 UNSEEN = re.compile(r"-f(?:modules?-.*|modules|profile-use(?:=.*)?|branch-probabilities|auto-profile(?:=.*)?|directives-only|preprocessed)"
                     r"|-d(?!ump)[A-Za-z]*[DIMNU][A-Za-z]*|-P", re.S)
 SEARCHING = re.compile(r"-(?:[IDUA]|i[a-z]+|nostdinc)")
 # Sources of these languages are not preprocessed.
 WITHOUT_HEADERS = ("assembler", "cpp-output", "c++-cpp-output")
 COMPILING = re.compile(r"cc1(?:plus|obj|objplus)?")
-# Names of its linker and of its assembler.
+# The names of the compiler's linker and assembler.
 LINKING = re.compile(r"(?:.*-)?(?:collect2|ld(?:\..*)?)")
 ASSEMBLING = re.compile(r"(?:.*-)?as")
 # GNU ld's options of a directory that is searched for libraries, and of a library.
@@ -44,7 +44,7 @@ LIBRARY = re.compile(r"-l(?!ibrary)(.+)?|--?library(?:=(.*))?", re.S)
 
 
 def variables():
-    """The environment as far as it can change what a compiler makes. PWD is where debug information says that it ran."""
+    """The environment variables that can change a compiler's output. Debug information has PWD as the directory of the compilation."""
     found = {name: value for name, value in os.environ.items() if VARIABLES.fullmatch(name)}
     here = os.environ.get("PWD")
     try:
@@ -55,8 +55,8 @@ def variables():
 
 
 class Answer(NamedTuple):
-    """What the compiler says for some options: a digest of that and of all programs that it names, whether these are all here, where it
-    searches for libraries, for which libraries, and where its assembler searches."""
+    """The compiler's reply for some options: a digest of the reply and of all programs that it names, whether all of these exist, the
+    directories that are searched for libraries, the names of the libraries, and the directories that the assembler searches."""
 
     digest: str
     here: bool
@@ -66,7 +66,7 @@ class Answer(NamedTuple):
 
 
 class Compiler:
-    """The compiler of this build, which is asked once for each choice of options."""
+    """The compiler of this build. It is asked once for each set of options."""
 
     def __init__(self, words, digests):
         self.words, self.digests = words, digests
@@ -80,7 +80,7 @@ class Compiler:
                           "help: choose a GCC for RISC-V, such as CC=riscv64-unknown-elf-gcc")
 
     def about(self, options, language=None):
-        """What it says for these options: of a language, or of the linker."""
+        """The compiler's reply for these options and a language, or for the linker if no language is given."""
         key = (*options, language)
         with self.locks.setdefault(key, threading.Lock()):
             if key not in self.answers:
@@ -88,7 +88,7 @@ class Compiler:
             return self.answers[key]
 
     def ask(self, options, language):
-        """Asks it, and reads each program and file that it names."""
+        """Asks the compiler, and reads each program and file that it names."""
         given, nothing = [*self.words, *options], [os.devnull, "-o", os.devnull]
         if language:
             told, linker = self.run([*given, "-###", "-c", "-x", language, *nothing]), []
@@ -96,7 +96,7 @@ class Compiler:
             if language not in WITHOUT_HEADERS:
                 self.refuse_other_search(told, [*given, "-###", "-E", "-x", language, *nothing])
         else:
-            # The linker is found by collect2, which says so when it runs it. What is compiled as late as that is compiled by lto1.
+            # collect2 finds the linker, and prints its path when it runs it. Code that is compiled at link time is compiled by lto1.
             told = self.run([*given, "-###", *nothing]) + self.run([*given, "-###", "-c", "-x", "lto", *nothing])
             linked = self.run([*self.words, "-v", "-Wl,--version", *options, "-o", os.devnull])
             linker = re.findall(r"^collect2 version .*\n(.*?) [-@]", linked, re.M) or [""]
@@ -113,21 +113,21 @@ class Compiler:
 
     @staticmethod
     def refuse_unseen(given, compiling, language):
-        """Refuses options, wherever they come from, for which neither the compiler nor its preprocessor tells what is read."""
+        """Rejects options, from any source, with which neither the compiler nor its preprocessor reports all files that are read."""
         for word in filter(UNSEEN.fullmatch, words_of_program(commands_in(compiling), COMPILING)):
             if word != "-fpreprocessed":
                 raise Refused(f'error: "{shown(word)}" cannot be used: with it, the compiler does not report all that it reads')
             if language not in WITHOUT_HEADERS:
-                # Files that are kept are made of preprocessed text, by an option that nobody wrote.
+                # With -save-temps the driver compiles preprocessed text, and adds -fpreprocessed itself. The message names the user's option.
                 word = next((it for it in given if it.startswith("-save-temps")), word)
                 raise Refused(f'error: "{shown(word)}" cannot be used: it changes how a source is preprocessed')
 
     def refuse_other_search(self, compiling, preprocess):
-        """Refuses specs by which the preprocessor, asked for its text alone, searches elsewhere than in a compilation."""
+        """Rejects specs that make the preprocessor search different directories with -E than in a compilation."""
         try:
             told = self.run(preprocess)
         except Refused:
-            # Without a preprocessor, sources are compiled in each build.
+            # If the preprocessor cannot be run, sources are compiled in each build.
             return
         here, there = (searching_words(words_of_program(commands_in(it), COMPILING)) for it in (compiling, told))
         if here != there:
@@ -136,8 +136,8 @@ class Compiler:
 
     @staticmethod
     def run(words):
-        """What the compiler prints; when it fails, so does whatever the words belong to."""
-        # GCC's driver prints MAKEFLAGS, which say nothing of an output.
+        """Runs a command of the compiler, and returns what it prints. If it fails, raises `Refused`."""
+        # GCC's driver prints MAKEFLAGS, on which no output depends.
         environment = {**os.environ, **UNCACHED, "LC_ALL": "C", "MAKEFLAGS": ""}
         done = subprocess.run(words, stdin=subprocess.DEVNULL, capture_output=True, check=False, env=environment)
         if done.returncode:
@@ -147,39 +147,39 @@ class Compiler:
 
 
 def help_for(text):
-    """What to do about a failure that has a usual cause."""
+    """A hint for a failure that has a common cause, or an empty text."""
     if "picolibc.specs" in text:
         return "help: as root, apt-get install picolibc-riscv64-unknown-elf, or choose LIBC=none"
     return ""
 
 
 def plugins_in(told):
-    """The files of the plugins that options name without a directory."""
+    """The paths of the plugins that options name without a directory."""
     folders = re.findall(r"(?<=[ '])-iplugindir=([^\s']+)", told)
     names = re.findall(r"(?<=[ '])-fplugin=([^\s/']+)(?=[\s'])", told)
     return sorted({os.path.join(folder, f"{name}.so") for folder in folders for name in names})
 
 
 def commands_in(told):
-    """The commands that it says it would run, each a list of words."""
+    """The commands that the compiler says it would run, each as a list of words."""
     for line in re.findall(r"^ (\S.*)$", told, re.M):
         with contextlib.suppress(ValueError):
             yield shlex.split(line)
 
 
 def searching_words(words):
-    """The options by which headers are found and macros defined, with their values."""
+    """The options that define macros, or say where headers are searched for, with their values."""
     return [(word, after if SEARCHING.fullmatch(word) else "") for word, after in zip(words, [*words[1:], ""]) if SEARCHING.match(word)]
 
 
 def words_of_program(commands, name):
-    """The words that a program of this name is given, perhaps by a wrapper, with those of its response files."""
+    """The arguments of a program with this name, which a wrapper may run, including those in its response files."""
     found = [it for it in commands if any(name.fullmatch(os.path.basename(word)) for word in it)]
     return [word for command in found for word in expanded(command)[0]]
 
 
 def values_after(words, option):
-    """The values of the linker's options of this form: each ends its word, or is the next one."""
+    """The values of the options of this form. A value is the rest of the option's word, or the next word."""
     found = []
     for word, after in zip(words, [*words[1:], ""]):
         given = option.fullmatch(word)

@@ -1,7 +1,7 @@
-"""Digests of files and names in directories, as of the first look at each in a build.
+"""Digests of files, and the names in directories. Each is read once per build, when it is first needed.
 
-Nothing is remembered from one build to the next: that dates, sizes and inodes are the same says nothing about contents, as where another
-image is mounted.
+Nothing is remembered from one build to the next, since equal dates, sizes and inodes do not prove equal contents: another file system may
+have been mounted there.
 """
 import hashlib
 import json
@@ -13,12 +13,12 @@ from listing.files import named
 
 
 def new_digest(data=b""):
-    """A digest to which data can be added."""
+    """A new digest of this data, to which more can be added."""
     return hashlib.blake2b(data, digest_size=20)
 
 
 def digest_of_kit():
-    """The digest of the scripts that build: those of another kit may make something else of the same files."""
+    """The digest of the scripts of this kit. Another version of the kit may build something else from the same files."""
     found = new_digest()
     for folder in ("building", "listing"):
         path = os.path.join(os.path.dirname(os.path.dirname(os.path.abspath(__file__))), folder)
@@ -28,7 +28,7 @@ def digest_of_kit():
     return found.hexdigest()
 
 
-# What other scripts made is worth nothing.
+# Records that other versions of the scripts wrote are ignored.
 FORMAT = digest_of_kit()
 DIRECTORY, SPECIAL = "directory", "special"
 
@@ -39,7 +39,7 @@ def digest_of(value):
 
 
 def write_whole(path, text):
-    """Replaces a file in one step, so that a reader sees the old contents or the new ones, however this process ends."""
+    """Replaces a file atomically: a reader sees either the old or the new contents, even if this process is killed."""
     new = f"{path}.{os.getpid()}.{threading.get_ident()}.new"
     with named(path), open(new, "w", encoding="utf-8", errors="surrogateescape") as file:
         file.write(text)
@@ -52,29 +52,29 @@ def has_contents(digest):
 
 
 def facts_of(status):
-    """What is different for a file that was changed or replaced."""
+    """The metadata that differs if a file was changed or replaced."""
     return [status.st_dev, status.st_ino, status.st_size, status.st_mtime_ns, status.st_ctime_ns]
 
 
 class Digests:
-    """What is known about files: digests of their contents, and which names a directory has."""
+    """A cache of the digests of files, and of the names in directories."""
 
     def __init__(self):
         self.seen, self.facts, self.listings = {}, {}, {}
 
     def of(self, path):
-        """The digest of a file's contents; DIRECTORY, SPECIAL or None for what has no contents."""
+        """The digest of a file's contents; DIRECTORY, SPECIAL or None if the path is not a file that can be read."""
         if path not in self.seen:
             self.seen[path] = self.read(path)
         return self.seen[path]
 
     def anew(self, path):
-        """The digest of a file that this build has written."""
+        """The digest of a file that this build has just written: the file is read again."""
         self.seen.pop(path, None)
         return self.of(path)
 
     def read(self, path):
-        """The digest of what a file holds now."""
+        """The digest of a file's current contents, without the cache."""
         try:
             status = os.stat(path)
             if not stat.S_ISREG(status.st_mode):
@@ -93,14 +93,14 @@ class Digests:
             return True
 
     def forget(self, paths, folders):
-        """Makes files and directories be looked at again."""
+        """Removes files and directories from the cache, so that they are read again."""
         for path in paths:
             self.seen.pop(path, None)
         for folder in folders:
             self.listings.pop(folder, None)
 
     def has(self, path):
-        """Whether there is something of this path, as of when its directory was first looked at."""
+        """Whether the path existed when its directory was first read."""
         folder, name = os.path.split(path)
         if folder not in self.listings:
             try:

@@ -1,4 +1,4 @@
-"""Marks: which images and which list a make has, so that it can tell after its run whether another one replaced them meanwhile."""
+"""Marks: a mark lists the images and the job list that one `make` uses. After its run, `make` checks that no other `make` replaced them."""
 import contextlib
 import fcntl
 import json
@@ -9,13 +9,13 @@ from listing.files import named, shown
 
 from .digests import facts_of, write_whole
 
-# A make that runs for longer than this finds its mark gone, and says so.
+# Marks are removed after this time. A `make` that runs for longer reports that its mark is gone.
 KEPT_SECONDS = 86_400
 LOCK = "lock"
 
 
 def state_of(path):
-    """What is different for a file that was replaced, even by one of the same contents."""
+    """The metadata that differs if a file was replaced, even by a file with equal contents; None if there is no file."""
     try:
         return facts_of(os.stat(path))
     except OSError:
@@ -23,7 +23,7 @@ def state_of(path):
 
 
 def write_mark(mark, images):
-    """Writes which images there are, while no other build can replace one, and removes the marks of builds that ended long ago."""
+    """Writes a mark of these images, and removes old marks. The caller has the lock, so no other build replaces an image meanwhile."""
     folder = os.path.dirname(mark)
     os.makedirs(folder, exist_ok=True)
     for path in (os.path.join(folder, it) for it in os.listdir(folder) if it != LOCK):
@@ -34,15 +34,15 @@ def write_mark(mark, images):
 
 
 def states_in(mark):
-    """The states that a mark has."""
+    """The states in a mark, by path."""
     with open(mark, encoding="utf-8", errors="surrogateescape") as file:
         return json.load(file)
 
 
 def write_marked(path, text, mark):
-    """Writes a file, unless it has this text already, and adds it to the mark.
+    """Writes a file, unless it already has this text, and adds it to the mark.
 
-    The state is that of the file which was written or read here, and not of whatever has its path a moment later.
+    The mark gets the state of the file that was written or read here, not of a file that has this path later.
     """
     with open(os.path.join(os.path.dirname(mark), LOCK), "w", encoding="utf-8") as lock:
         fcntl.flock(lock, fcntl.LOCK_EX)
@@ -58,7 +58,7 @@ def write_marked(path, text, mark):
 
 
 def replace(new, path):
-    """Puts a new file in the place of another one; if that fails, nothing is left of it."""
+    """Replaces a file by a new one. If this fails, the new file is removed."""
     try:
         os.replace(new, path)
     except OSError:
@@ -67,7 +67,7 @@ def replace(new, path):
 
 
 def state_if_same(path, content):
-    """The state of a file that has this content; none of another one, or if there is none."""
+    """The state of a file if it has this content; otherwise None."""
     try:
         with open(path, "rb") as file:
             return facts_of(os.fstat(file.fileno())) if file.read() == content else None
@@ -76,7 +76,7 @@ def state_if_same(path, content):
 
 
 def error_of(mark):
-    """What to say of a file that another build has replaced since it was marked; nothing if all are the same."""
+    """The error that another build has replaced a file since it was marked; empty if none was replaced."""
     try:
         replaced = [path for path, state in states_in(mark).items() if state != state_of(path)]
     except FileNotFoundError:
@@ -85,5 +85,5 @@ def error_of(mark):
 
 
 def text_of_replaced(path):
-    """What to say of a file that is not the one which was built."""
+    """The error that another build replaced a file."""
     return f"{shown(path)}: error: another build replaced it meanwhile: run make again"

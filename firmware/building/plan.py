@@ -1,4 +1,4 @@
-"""What each test is built of: its sources, each with its options, and the words that link their objects."""
+"""The plan of each test: its sources, each with its options, and the arguments that link their objects."""
 import os
 from typing import NamedTuple
 
@@ -7,21 +7,22 @@ from listing.flags import LANGUAGES, expanded, flags_of, inputs_of, refuse_unsee
 
 from .steps import Source
 
-# picolibc's start-up code must be the hosted one: picolibc.c says why.
+# picolibc.c explains why the hosted start-up code of picolibc is needed.
 LIBRARIES = {
     "picolibc": (["--specs=picolibc.specs", "--crt0=hosted"], "picolibc.c"),
     "none": (["-ffreestanding", "-nostdlib", "-nostartfiles"], "start.S"),
 }
 LINKING = ["-Wl,--build-id=none", "-Wl,-z,max-page-size=4", "-Wl,--no-warn-rwx-segments"]
-# With -flto the linker would drop what only libraries use, such as `stdout`.
+# With -flto the linker would drop symbols that only libraries use, such as `stdout`.
 ALONE = "-fno-lto"
-# Options of the linker alone, and those whose value is the next word: a source that tests share is compiled once whatever they are.
+# Options that only the linker uses, and those whose value is the next word. A source that tests share is compiled only once, even if these
+# options differ.
 LINKED = ("-Wl,", "-l", "-L", "-T", "-z", "-u", "-nostartfiles", "-nodefaultlibs")
 LINKED_WITH_VALUE = ("-Xlinker", "-T", "-L", "-l", "-z", "-u", "-e")
 
 
 class Plan(NamedTuple):
-    """A test: the sources that it is made of, the words that link it, in which a source stands for its object, and its image."""
+    """The plan of a test: its sources, the arguments that link it, in which a source represents its object, and its image."""
 
     name: str
     place: str
@@ -31,7 +32,7 @@ class Plan(NamedTuple):
 
 
 class Kit:
-    """The options that hold for all tests, of make's variables."""
+    """The options of all tests, which come from make's variables."""
 
     def __init__(self, folder, variables, image_folder):
         self.folder, self.images = folder or ".", image_folder
@@ -48,7 +49,7 @@ class Kit:
         return os.path.join(self.folder, name)
 
     def plan(self, test):
-        """What a test is built of."""
+        """The plan of a test."""
         own = flags_of(f"{test.stem}.flags")[0]
         library, support = LIBRARIES[self.library]
         common = [*self.machine, f"-I{self.folder}/", *library, f"--specs={self.path('cplusplus.specs')}"]
@@ -68,7 +69,7 @@ class Kit:
         return Plan(test.name, test.place, sources, without_languages(words), os.path.join(self.images, f"{test.place}.elf"))
 
     def arch_plan(self, test):
-        """What an architecture test is built of."""
+        """The plan of an architecture test."""
         options = [*self.arch, "-DXLEN=32", f"-I{self.path('arch-test')}", *self.arch_include, "-nostdlib", "-nostartfiles"]
         source = source_of(test.source, "assembler-with-cpp", compiled_by(options), test.name)
         words = [*options, source, *self.linking, "-T", self.path("arch-test/link.ld")]
@@ -76,27 +77,27 @@ class Kit:
 
 
 def options_in(text, name):
-    """The words of one of make's variables, with those of its response files."""
+    """The words in one of make's variables, including those in its response files."""
     words = expanded(words_in(text, name))[0]
     refuse_unseen(words, name)
     return words
 
 
 def source_of(path, language, options, label=None):
-    """A source; one in assembler may use every instruction of the simulator, so FENCE.I as well."""
+    """A source with its options. Assembler sources may use every instruction of the simulator, including FENCE.I."""
     if language.startswith("assembler"):
         options = [*options, *with_fence_i(options)]
     return Source(path, language, tuple(options), label or path)
 
 
 def with_fence_i(options):
-    """The option that lets the assembler take FENCE.I: compilers and C libraries have no directory for an -march with zifencei."""
+    """The option that makes the assembler accept FENCE.I. -march cannot do it: C libraries have no directory for one with zifencei."""
     chosen = [it for it in options if it.startswith("-march=rv")]
     return [f"-Wa,{chosen[-1]}_zifencei"] if chosen and "zifencei" not in chosen[-1] else []
 
 
 def compiled_by(options):
-    """The options that matter to a compilation: neither the linker's nor languages, which each source has of its own."""
+    """The options that matter to a compilation: without those of the linker, and without languages, which each source sets itself."""
     kept, left = [], iter(options)
     for word in left:
         if word in LINKED_WITH_VALUE or word == "-x":
@@ -107,6 +108,6 @@ def compiled_by(options):
 
 
 def without_languages(words):
-    """The words of the linker: objects have no language."""
+    """The arguments without -x and its value, since objects have no language."""
     left = iter(words)
     return [it for it in left if not isinstance(it, str) or it != "-x" or next(left, None) is None]

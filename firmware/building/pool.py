@@ -1,4 +1,4 @@
-"""Runs the steps of all tests side by side, as many at a time as make was told, and reports each in one piece."""
+"""Runs the steps of all tests in parallel, as many at a time as make's -j allows, and reports each step without interleaving."""
 import concurrent.futures
 import os
 import re
@@ -11,13 +11,13 @@ from .steps import Failed, compile_step, link_step
 
 
 def jobs_of_make():
-    """How many compilers may run at a time: the number of make's -j, or else one for each processor."""
+    """The maximum number of compilers that run in parallel: that of make's -j, or else the number of processors."""
     found = re.search(r"(?:^|\s)-j ?(\d+)", os.environ.get("MAKEFLAGS", "").partition(" -- ")[0])
     return max(1, int(found[1])) if found else len(os.sched_getaffinity(0))
 
 
 class Report:
-    """What is printed: a line for each step, or its whole command, and what the compiler says."""
+    """Prints a line for each step, or its whole command if `verbose`, and the compiler's messages."""
 
     def __init__(self, verbose):
         self.verbose, self.lock, self.told = verbose, threading.Lock(), set()
@@ -34,7 +34,7 @@ class Report:
                 sys.stderr.flush()
 
     def error(self, text):
-        """Reports what is wrong with a test, once if several tests share it."""
+        """Reports an error, only once if several tests share it."""
         with self.lock:
             if text and text not in self.told:
                 self.told.add(text)
@@ -42,18 +42,18 @@ class Report:
 
 
 class Pool:
-    """The steps of a build that are under way. Sources that several tests share are compiled once."""
+    """Runs the steps of a build. Sources that several tests share are compiled once."""
 
     def __init__(self, tools, jobs):
         self.tools, self.objects, self.built = tools, {}, set()
         self.executor = concurrent.futures.ThreadPoolExecutor(jobs)
 
     def build(self, plans):
-        """Builds each test; one that fails leaves no image, and the others go on. Returns whether all were built."""
+        """Builds each test. If one fails, it has no image, and the others are still built. Returns whether all were built."""
         plans = list(plans)
         for source in dict.fromkeys(it for plan in plans for it in plan.sources):
             self.objects[source] = self.executor.submit(compile_step, self.tools, source)
-        # Behind all sources, so that few links wait for an object and keep a thread from compiling.
+        # Links are submitted after all sources, so that few of them block a thread while they wait for an object.
         futures = [self.executor.submit(self.link, plan) for plan in plans]
         try:
             return all([it.result() for it in futures])
@@ -62,7 +62,7 @@ class Pool:
             raise
 
     def link(self, plan):
-        """Links a test once its objects are there: their steps were submitted before this one, so they are under way or done."""
+        """Links a test after waiting for its objects. Their steps were submitted earlier, so they are running or finished."""
         try:
             objects = {source: self.objects[source].result() for source in plan.sources}
             self.built.update(path for path, _ in objects.values())

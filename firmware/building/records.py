@@ -1,8 +1,8 @@
-"""Records of what was made, and of all that went into it: a record holds as long as making it again would give the same.
+"""Records of outputs and their inputs. A record is valid as long as building the output again would give the same bytes.
 
-A record has the digest of each file that was read; for what only the assembler or the linker reads, the names that were searched for, the
-directories that were searched, and what there was of these names; and the digest of the output. It is complete when it appears, as the
-output is.
+A record has the digest of each file that was read, and the digest of the output. For files that only the assembler or the linker reads, it
+also has the names that were searched for, the directories that were searched, and the files that were found. Records and outputs are
+written atomically.
 """
 import json
 import os
@@ -13,15 +13,15 @@ from listing.flags import is_file, response_words
 
 from .digests import FORMAT, SPECIAL, has_contents, write_whole
 
-# In the place of the digest of a file that was read, but that is not here, or may not be read here, as with a compiler in a container.
-# No file has this digest, so that its record never holds.
+# Replaces the digest of a file that the compiler read but that cannot be read here, for example if the compiler runs in a container. No
+# file has this digest, so the record is never valid.
 UNREAD = "unread"
-# Options of the assembler and the compiler that name a file which is written: a listing, as -adhlns=a.lst, or what the compiler did.
+# Options of the assembler and the compiler that name an output file: a listing, such as -adhlns=a.lst, or a dump.
 WRITTEN = re.compile(r"(?:-a[a-z]*|-fdump-[\w-]+|-fopt-info[\w-]*)=.*", re.S)
 
 
 def paths_in_words(words):
-    """The files that words name in any way: whole, after `=` or `,` or an option's letter, and within response files of the linker."""
+    """The files that words name: as the whole word, after `=`, `,` or an option's letter, or in a response file of the linker."""
     found, left = [], [piece for word in words for piece in pieces_of(word)]
     while left:
         piece = left.pop()
@@ -36,7 +36,7 @@ def paths_in_words(words):
 
 
 def words_of_response(path):
-    """The words of a response file; none if it is not text."""
+    """The words in a response file; an empty list if it is not text."""
     try:
         return response_words(text_at(path))
     except Refused:
@@ -52,13 +52,13 @@ def pieces_of(word):
 
 
 def maps_in(words):
-    """The files that the linker writes by its option -Map."""
+    """The files that the linker writes because of its option -Map."""
     text = ",".join(it.removeprefix("-Wl,") for it in words if it != "-Xlinker")
     return re.findall(r"(?:^|,)--?Map[=,]([^,]+)", text)
 
 
 class Record:
-    """What went into an output, and the output's digest."""
+    """The inputs of an output, and the digest of the output."""
 
     def __init__(self, digests, key):
         self.digests, self.key = digests, key
@@ -70,31 +70,31 @@ class Record:
             self.files[path] = self.digests.of(path)
 
     def add_listed(self, paths):
-        """Adds the files that a program says it read. Of what it calls a file and is none here, nothing is known."""
+        """Adds the files that a program reports as read. If one cannot be read here, its contents count as unknown."""
         for path in paths:
             digest = self.digests.of(path)
             self.files[path] = digest if has_contents(digest) or digest == SPECIAL else UNREAD
 
     def add_search(self, folders, names):
-        """Adds a search: these names in each of these directories. Directories of a search are compared as they are spelt."""
+        """Adds a search for these names in each of these directories. Directories are compared as written, without resolving links."""
         self.searches.append([list(dict.fromkeys(folders)), sorted(names)])
 
     def close(self, output):
-        """Completes the record, with its output, which was just written."""
+        """Completes the record with the digest of its output, which was just written."""
         self.output, self.present = self.digests.anew(output), self.found()
 
     def found(self):
-        """What there is of all that was searched for: paths, each with its digest."""
+        """The files that the searches find now, each with its digest."""
         paths = {os.path.join(folder, name) for folders, names in self.searches for folder in folders for name in names}
         return {path: self.digests.of(path) for path in paths if self.digests.has(path)}
 
     def holds(self, key, output):
-        """Whether all is as it was. The output must be the very bytes, whatever its date."""
+        """Whether the record is still valid: all inputs are unchanged, and the output has the recorded bytes. Dates are ignored."""
         return (self.key == key and all(self.digests.of(path) == digest for path, digest in self.files.items())
                 and self.present == self.found() and self.digests.of(output) == self.output)
 
     def value(self):
-        """The record as JSON has it."""
+        """The record as a value for JSON."""
         return {"format": FORMAT, "key": self.key, "files": self.files, "searches": self.searches, "present": self.present,
                 "output": self.output}
 
@@ -106,11 +106,11 @@ class Records:
         self.folder, self.digests = folder, digests
 
     def path(self, kind, name):
-        """Where a record is kept."""
+        """The path of a record."""
         return os.path.join(self.folder, kind, f"{name}.json")
 
     def load(self, kind, name):
-        """The record of this name; none if it is missing, damaged, or of another kit."""
+        """The record with this name; None if it is missing, damaged, or was written by another version of the kit."""
         try:
             with open(self.path(kind, name), encoding="utf-8", errors="surrogateescape") as file:
                 value = json.load(file)
@@ -124,7 +124,7 @@ class Records:
             return None
 
     def save(self, kind, name, record):
-        """Writes a record in one step."""
+        """Writes a record atomically."""
         path = self.path(kind, name)
         os.makedirs(os.path.dirname(path), exist_ok=True)
         write_whole(path, json.dumps(record.value()))

@@ -1,4 +1,4 @@
-"""Reads the files that a word is in the rules which compilers, assemblers and linkers write for make."""
+"""Reads the make rules that compilers, assemblers and linkers write: the names of the files that they read."""
 import re
 
 WORD = re.compile(r"(?:\\.|\$\$|[^\s\\]|\\$)+", re.S)
@@ -15,12 +15,12 @@ def files_in_rules(text):
 
 
 def unquoted(word):
-    """A name as it was before it was quoted for make: a space, a tab, `#` and `:` by a backslash, and `$` by another one."""
+    """A name without make's quoting, in which a backslash precedes a space, a tab, `#` and `:`, and `$` is doubled."""
     return re.sub(r"((?:\\\\)*)\\([ \t#:])", lambda found: "\\" * (len(found[1]) // 2) + found[2], word).replace("$$", "$")
 
 
 def files_in_linked(text):
-    """The files that GNU ld says it read: one a line, unquoted."""
+    """The files that GNU ld reports as read: one per line, unquoted."""
     first = text.partition("\n\n")[0]
     if ": \\\n" not in first and ":" not in first:
         raise ValueError("no rule")

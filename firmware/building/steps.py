@@ -1,8 +1,8 @@
-"""The steps of a build: a source is compiled to an object, and objects are linked to an image. Each is done only if it must be.
+"""The steps of a build: compiling a source to an object, and linking objects to an image. A step runs only if its output is not up to date.
 
-An object is up to date if the compiler would run the same programs with the same words, its preprocessor prints the same text, and the files
-that were read have the same contents. For an image the linker takes the place of the preprocessor: no file may have appeared where it
-searches. The same holds for the assembler's files.
+An object is up to date if the compiler would run the same programs with the same arguments, its preprocessor prints the same text, and the
+files that were read have the same contents. An image is up to date if the same holds for the linker, which has no preprocessor, and no file
+has appeared where the linker searches. No file may have appeared where the assembler searches, either.
 """
 import os
 import re
@@ -19,27 +19,29 @@ from .records import Record, maps_in, paths_in_words
 from .rules import files_in_linked, files_in_rules
 from .scripts import folders_in_script, is_script, library_files, names_in_script, text_of_script
 
-# The resolution of the clock of file systems: what changed less than this before a compiler began may have changed after it.
+# The resolution of timestamps in file systems. A change whose timestamp is less than this before the start of a compiler may have come
+# after it.
 TICK_NS = 20_000_000
 MOST_TRIES = 3
-# With -flto, wherever it comes from, a source is assembled at once by this option, so that the assembler tells which files it reads for it.
+# With this option, a source is assembled when it is compiled even if -flto is set, so that the assembler reports which files it reads.
 ASSEMBLED = "-ffat-lto-objects"
-# By this option, headers of the system are listed by the paths that they were found by, whose links may be switched.
+# With this option, system headers are listed under the paths where they were found, and links in these paths are not resolved: a link may
+# later point to another directory.
 AS_FOUND = "-fno-canonical-system-headers"
-# The symbol of an object of GCC that was not.
+# GCC's objects that have no assembled code have this symbol.
 SLIM = b"\0__gnu_lto_slim\0"
 NAMED = re.compile(rb'(?:\.file[ \t]+|^[ \t]*#[ \t]*(?:line[ \t]+)?\d+[ \t]+)"([^"\n]*)"', re.M)
-# A precompiled header that the preprocessor takes in place of a header is named in its text by this option.
+# With this option, the preprocessor's text names each precompiled header that replaces a header.
 PRECOMPILED_NAMED = "-fpch-preprocess"
 PRECOMPILED = re.compile(rb'^#pragma GCC pch_preprocess "(.*)"$', re.M)
 
 
 class Failed(Exception):
-    """A step failed; the compiler said why."""
+    """A step failed. The compiler has printed why, or the message says it."""
 
 
 class Source(NamedTuple):
-    """A source with the options that it is compiled by."""
+    """A source with its compiler options."""
 
     path: str
     language: str
@@ -48,7 +50,7 @@ class Source(NamedTuple):
 
 
 class Tools(NamedTuple):
-    """What all steps need."""
+    """The objects that all steps use."""
 
     compiler: object
     digests: object
@@ -58,12 +60,12 @@ class Tools(NamedTuple):
 
 
 def key_of(tools, words, answer):
-    """What a step is known by, apart from the files that it reads."""
+    """The key of a step: all that its output depends on, except for the files that it reads."""
     return digest_of([tools.compiler.words, words, answer.digest, tools.compiler.environment, os.getcwd()])
 
 
 def preprocess(tools, source):
-    """What the preprocessor prints for a source now, warnings as well; nothing if the language has none, and None if it fails."""
+    """The preprocessor's output for a source, including warnings; empty if the language has no preprocessor, and None if it fails."""
     if source.language in WITHOUT_HEADERS:
         return b""
     words = [*tools.compiler.words, *source.options, AS_FOUND, PRECOMPILED_NAMED, "-x", source.language, "-E", source.path]
@@ -73,13 +75,13 @@ def preprocess(tools, source):
 
 
 def compile_step(tools, source):
-    """Makes the object of a source unless it is up to date, and returns its path, and whether it was made now."""
+    """Compiles a source to an object, unless the object is up to date. Returns its path, and whether the source was compiled."""
     answer = tools.compiler.about(list(source.options), source.language)
     words = [*source.options, "-x", source.language, "-c", source.path]
     place = key_of(tools, words, answer)
     stem = re.sub(r"[^A-Za-z0-9._-]", "_", os.path.splitext(os.path.basename(source.path))[0])
     output = os.path.join(tools.folder, "objects", place, f"{stem}.o")
-    # What changes between this and the compilation is in the next build's text alone, so that the record does not hold then.
+    # If a file changes between this and the compilation, the next build's text differs, so the record is not valid then.
     text = preprocess(tools, source)
     key = digest_of([place, new_digest(text or b"").hexdigest()])
     record = tools.records.load("objects", os.path.join(place, "record"))
@@ -115,7 +117,7 @@ def compile_step(tools, source):
 
 
 def link_step(tools, words, image, place, label):
-    """Makes an image of objects unless it is up to date, and returns whether it was made now."""
+    """Links objects to an image, unless the image is up to date. Returns whether they were linked."""
     answer = tools.compiler.about([it for it in words if not it.endswith(".o")])
     key = key_of(tools, words, answer)
     record = tools.records.load("images", place)
@@ -130,7 +132,7 @@ def link_step(tools, words, image, place, label):
         tools.digests.forget(maps, [])
         members = [it for archive in filter(os.path.isfile, files) for it in members_of_thin(archive)]
         record.add_files(others)
-        # Scripts are listed as they are named, and found in any of these directories, where each file of the name counts by its contents.
+        # Linker scripts are listed by name, without a directory. Any of these directories may have them, so every file with the name is checked.
         folders = ["", *answer.libraries]
         here = {it for it in files if any(os.path.isfile(os.path.join(folder, it)) for folder in folders)}
         record.add_listed([*(it for it in files if os.path.exists(it) or it not in here and not TEMPORARY.fullmatch(it)), *members])
@@ -154,11 +156,10 @@ def link_step(tools, words, image, place, label):
 
 
 def run_recorded(tools, words, output, key, label, read, complete, written=()):
-    """Runs the compiler until nothing that it read changed meanwhile, and returns the record of the output; none if something always did.
+    """Runs the compiler until none of its inputs changes during a run, and returns the record of the output, or None after too many tries.
 
-    A file whose digest was taken before the compiler began must be the same after it. One that was not looked at before must not have
-    changed since the compiler began, nor may a directory, nor what a search found there. Further files that it wrote are part of the
-    output.
+    A file whose digest was computed before the run must be unchanged after it. A file or directory that was first read after the run must
+    not have changed since the run began, and neither may a file that a search found. `written` are other files that the compiler writes.
     """
     new = f"{output}.new"
     for _ in range(MOST_TRIES):
@@ -183,7 +184,7 @@ def run_recorded(tools, words, output, key, label, read, complete, written=()):
 
 
 def changed_since(path, instant):
-    """Whether a file was changed, or put in its place, at this instant or later."""
+    """Whether a file was changed or replaced at this time or later."""
     try:
         return os.stat(path).st_ctime_ns >= instant
     except OSError:
@@ -191,7 +192,7 @@ def changed_since(path, instant):
 
 
 def run(tools, words, label):
-    """Runs the compiler, and reports its command and what it prints in one piece."""
+    """Runs the compiler, and then reports its command together with its output."""
     words = [*tools.compiler.words, *words]
     done = subprocess.run(words, stdin=subprocess.DEVNULL, stdout=subprocess.PIPE, stderr=subprocess.STDOUT, check=False,
                           env={**os.environ, **UNCACHED})
@@ -202,7 +203,7 @@ def run(tools, words, label):
 
 
 def refuse_unassembled(path, source):
-    """Refuses an object that has nothing but what the linker compiles later: no assembler has told yet which files it reads for it."""
+    """Rejects an object that has only code for the linker to compile, since no assembler has reported yet which files it reads."""
     with open(path, "rb") as file:
         if SLIM in file.read():
             raise Failed(f"{shown(source)}: error: the compiler wrote an object without code, so it is not known which files the assembler reads\n"
@@ -210,7 +211,7 @@ def refuse_unassembled(path, source):
 
 
 def read_list(path, parse):
-    """The files in a list that the compiler wrote."""
+    """The file names in a list that the compiler wrote."""
     try:
         with open(path, "rb") as file:
             return parse(os.fsdecode(file.read()))
@@ -219,7 +220,7 @@ def read_list(path, parse):
 
 
 def read_by_assembler(listed, files):
-    """The files that the assembler read, of those that it lists: these, and what compilers call the source that they made its input of."""
+    """The listed files that the assembler read. The list also has the source's name as the compiler wrote it into the assembler's input."""
     absent = [it for it in listed if not os.path.exists(it) and not TEMPORARY.fullmatch(it)]
     named = {*files[:1], *(name for it in filter(os.path.isfile, [*files, *listed]) for name in names_of_lines(it))} if absent else set()
     named |= {os.path.basename(it) for it in named}
@@ -227,12 +228,12 @@ def read_by_assembler(listed, files):
 
 
 def names_below(path, folders):
-    """The names by which a path can be found in these directories."""
+    """The relative names under which these directories may have a path."""
     plain, names = plain_path(path), {os.path.basename(path)}
     for folder in folders:
         above = plain_path(f"{folder}/").rstrip("/") if folder else ""
         if not above and not folder.startswith("/"):
-            # The directory that make runs in.
+            # The current directory of make.
             names.add(plain)
         elif plain.startswith(f"{above}/"):
             names.add(plain[len(above) + 1:])
@@ -240,13 +241,13 @@ def names_below(path, folders):
 
 
 def plain_path(path):
-    """A path without `./` and doubled slashes, which lists leave out in part. What `..` leads to depends on links: it stays."""
+    """A path without `./` and doubled slashes, some of which lists omit. `..` is kept, since its meaning depends on links."""
     absolute = "/" if path.startswith("/") else ""
     return absolute + "/".join(it for it in path.split("/") if it not in ("", "."))
 
 
 def names_of_lines(path):
-    """The names of files in .file and in markers of lines, as preprocessed sources have them: debug information is all that they are for."""
+    """The file names in .file directives and in line markers of preprocessed sources. They only serve debug information."""
     with open(path, "rb") as file:
         return {os.fsdecode(it) for it in NAMED.findall(file.read())}
 

@@ -37,7 +37,7 @@ word_len = 9
 abbrev pub digits_at : List ℕ → List ℕ
 digits_at rest = if length rest == 0 then codes "none" else take 8 rest
 
--- the rest of a line: the first word that differs between two signatures, whose texts have `len` equal leading bytes
+-- the rest of a line that shows the first word in which two signatures differ; `len` is the number of equal bytes at their beginning
 abbrev pub word_change_at : ℕ → List ℕ → List ℕ → List ℕ
 word_change_at len old new = codes ": word " ++ decimal (len / word_len) ++ codes ": "
     ++ printable_text (digits_at (drop (len - len % word_len) old)) ++ codes " -> "

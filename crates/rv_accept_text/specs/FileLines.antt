@@ -66,24 +66,24 @@ file_line list file = file_line_of list.jobs.now file (new_text list file)
 abbrev pub text_or_empty : Option (List ℕ) → List ℕ
 text_or_empty text = unwrap_or text []
 
--- that two jobs would write different texts to a golden file, and where the texts differ
+-- the reason why a golden file is skipped: two jobs have different texts for it, and where these differ
 abbrev pub disagreeing_texts : List Job → GoldenText → GoldenText → List ℕ
 disagreeing_texts jobs first other = golden_kind_text first.kind ++ printable_text (job_name jobs first.job) ++ codes " and "
     ++ golden_kind_text other.kind ++ printable_text (job_name jobs other.job) ++ codes " differ"
     ++ byte_difference (text_or_empty first.text) (text_or_empty other.text)
 
--- that two jobs would write different texts to a golden file, or only a line feed if there is no second job
+-- the reason why a golden file is skipped: two jobs have different texts for it; only a line feed if there is no second job
 abbrev pub other_text_reason : List Job → GoldenText → Option GoldenText → List ℕ
 other_text_reason jobs first None = codes "\n"
 other_text_reason jobs first (Some other) = disagreeing_texts jobs first other
 
--- that two jobs would write different texts to the golden file at this path, whose first golden text is given
+-- the reason why the golden file at the path is skipped: two jobs have different texts for it; given the file's first golden text
 abbrev pub first_text_reason : List Job → List GoldenText → List ℕ → Option GoldenText → List ℕ
 first_text_reason jobs golden_texts path None = codes "\n"
 first_text_reason jobs golden_texts path (Some first) =
     other_text_reason jobs first (find (has_other_text path (text_or_empty first.text)) golden_texts)
 
--- that two jobs would write different texts to the golden file at this path: its first golden text, and the first one that differs from it
+-- the reason why the golden file at the path is skipped: its first golden text differs from that of another job
 abbrev pub disagreement_text : List Job → List GoldenText → List ℕ → List ℕ
 disagreement_text jobs golden_texts path = first_text_reason jobs golden_texts path (find (is_for_file path) golden_texts)
 

@@ -102,7 +102,8 @@ pub(crate) fn push_word_change(out: &mut Vec<u8>, old: &[u8], new: &[u8]) -> Res
     push_word_change_at(out, common_prefix_len(old, new), old, new)
 }
 
-// Appends the rest of a line: the first word that differs between two signatures, whose texts have `len` equal leading bytes.
+// Appends the rest of a line that shows the first word in which two signatures differ; `len` is the number of equal bytes at their
+// beginning.
 fn push_word_change_at<'x>(
     out: &mut Vec<u8>,
     len: usize,

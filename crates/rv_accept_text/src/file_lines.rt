@@ -188,7 +188,7 @@ fn push_file_skip_reason(
     }
 }
 
-// Appends that two jobs would write different texts to the golden file at a path, and a line feed.
+// Appends the reason why the golden file at the path is skipped: two jobs have different texts for it.
 fn push_disagreement(
     out: &mut Vec<u8>,
     jobs: &[Job],
@@ -208,7 +208,7 @@ fn push_disagreement(
     }
 }
 
-// Appends that two jobs would write different texts to a golden file, or only a line feed if there is no second job.
+// Appends the reason why a golden file is skipped: two jobs have different texts for it; only a line feed if there is no second job.
 fn push_other_text_reason(
     out: &mut Vec<u8>,
     jobs: &[Job],
@@ -224,7 +224,7 @@ fn push_other_text_reason(
     }
 }
 
-// Appends that two jobs would write different texts to a golden file, and where the texts differ.
+// Appends the reason why a golden file is skipped: two jobs have different texts for it, and where these differ.
 fn push_disagreeing_texts(
     out: &mut Vec<u8>,
     jobs: &[Job],

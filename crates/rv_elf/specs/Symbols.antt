@@ -65,7 +65,7 @@ is_bad_signature_range begin end regions = nat_lt end begin || (not (begin % 4 =
     || (nat_lt begin end && (not (is_in_one_region regions begin (end - begin))
     || nat_lt 0x4_0000 (end - begin)))))
 
--- the error of a signature from `begin` up to `end` that is not in a valid range, or `accepted` if it is
+-- `accepted` if the words from `begin` up to `end` can be a signature in these regions, and otherwise the error `SignatureRange`
 unfoldable pub signature_check : ℕ → ℕ → List Region → Result (Unit {0}) ImageError
 signature_check begin end regions =
     first_error_of ((is_bad_signature_range begin end regions, SignatureRange) ∷ []) accepted

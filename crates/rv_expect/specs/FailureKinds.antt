@@ -26,13 +26,13 @@ use Rattle.rv_expect.specs.declared.unmet.UnmetExpectation.TheVariants as unmet
 abbrev pub failure_kind_count : ℕ
 failure_kind_count = length fault_kinds + 6
 
--- the kind of failure at an index, counted from `Refused`, which follows the kinds of faults
+-- the kind of failure at an index of the list `Refused`, `Console`, `Signature`, `SameAs`, which follows the kinds of faults
 abbrev pub failure_kind_after_faults : ℕ → FailureKind
 failure_kind_after_faults index = if index == 0 then failure.Refused
     else (if index == 1 then failure.Console else (if index == 2 then failure.Signature else failure.SameAs))
 
--- the kind of failure at an index, counted from the first kind of fault, which follows `Budget`; the first argument is the kind of fault at
--- this index, if there is one
+-- the kind of failure at an index of the list of the kinds after `Budget`, which begins with the kinds of faults; the first argument is the
+-- kind of fault at this index, if there is one
 abbrev pub failure_kind_after_budget : Option FaultKind → ℕ → FailureKind
 failure_kind_after_budget (Some kind) index = failure.Fault kind
 failure_kind_after_budget None index = failure_kind_after_faults (index - length fault_kinds)

@@ -86,7 +86,7 @@ impl FailureKind {
     }
 }
 
-// Returns the kind of failure at an index, counted from the first kind of fault, which follows `Budget`.
+// Returns the kind of failure at an index of the list of the kinds after `Budget`, which begins with the kinds of faults.
 fn failure_kind_after_budget(index: usize) -> FailureKind
     ensures { result ≡ failure_kind_after_budget (slice_get fault_kinds index) index }
 {
@@ -96,7 +96,7 @@ fn failure_kind_after_budget(index: usize) -> FailureKind
     }
 }
 
-// Returns the kind of failure at an index, counted from `Refused`, which follows the kinds of faults.
+// Returns the kind of failure at an index of the list `Refused`, `Console`, `Signature`, `SameAs`, which follows the kinds of faults.
 fn failure_kind_after_faults(index: usize) -> FailureKind
     ensures { result ≡ failure_kind_after_faults index }
 {

@@ -27,22 +27,22 @@ use Rattle.std.proofs.lemmas.Slice.Eq.{bytes_eq-Decides}
 
 -- ---- what is kept of a path
 
-result_indices_of_job : (b : Bool) (o : Option ℕ) (a : PathResult) (ans : List PathResult) (f : Option PathResult) (k : ℕ) (d : PathResult)
+result_of_step : (b : Bool) (o : Option ℕ) (a : PathResult) (ans : List PathResult) (f : Option PathResult) (k : ℕ) (d : PathResult)
     → ((j : ℕ) → o ≡ Some j → option_map (λ (x : PathResult). x.kept) f ≡ Some (get_or ans j d).kept)
     → cond b (Some 0) (option_map (λ j. j + 1) o) ≡ Some k
     → option_map (λ (x : PathResult). x.kept) (cond b (Some a) f) ≡ Some (get_or (a ∷ ans) k d).kept
-result_indices_of_job true o a ans f k d ih e = let z : 0 ≡ k = cc in ap (λ j. Some (get_or (a ∷ ans) j d).kept) z
-result_indices_of_job false None a ans f k d ih e = cc
-result_indices_of_job false (Some j) a ans f k d ih e = let z : j + 1 ≡ k = cc in let s : suc j ≡ k = omega arith in ih j refl
+result_of_step true o a ans f k d ih e = let z : 0 ≡ k = cc in ap (λ j. Some (get_or (a ∷ ans) j d).kept) z
+result_of_step false None a ans f k d ih e = cc
+result_of_step false (Some j) a ans f k d ih e = let z : j + 1 ≡ k = cc in let s : suc j ≡ k = omega arith in ih j refl
     ∙ ap (λ i. Some (get_or (a ∷ ans) i d).kept) s
 
--- the answer at the place of the path
-pub cached_or_invalidated_at : (ans : List PathResult) (p : List ℕ) (k : ℕ) (d : PathResult) → index_in (paths_of ans) p ≡ Some k
+-- the result at the index of the path
+pub result_at_index : (ans : List PathResult) (p : List ℕ) (k : ℕ) (d : PathResult) → index_in (paths_of ans) p ≡ Some k
     → result_of_path ans p ≡ Some (get_or ans k d).kept
 unfolding index_in
-cached_or_invalidated_at [] p k d e = cc
-cached_or_invalidated_at (a ∷ ans) p k d e = result_indices_of_job (bytes_eq p a.path) (index_in (paths_of ans) p) a ans
-    (find (λ (x : PathResult). bytes_eq p x.path) ans) k d (λ j h. cached_or_invalidated_at ans p j d h) e
+result_at_index [] p k d e = cc
+result_at_index (a ∷ ans) p k d e = result_of_step (bytes_eq p a.path) (index_in (paths_of ans) p) a ans
+    (find (λ (x : PathResult). bytes_eq p x.path) ans) k d (λ j h. result_at_index ans p j d h) e
 
 absent : (b : Bool) (o : Option ℕ) (a : PathResult) (f : Option PathResult)
     → (o ≡ None → option_map (λ (x : PathResult). x.kept) f ≡ None)
@@ -273,7 +273,7 @@ kept_there : (ps : List (List ℕ)) (ks : List Kept) (q : List ℕ) (k : ℕ) (x
     → index_in ps q ≡ Some k → x ≡ get_or ks k x → result_of_path (results_with ps ks) q ≡ Some x
 kept_there ps ks q k x even found is =
     let d : PathResult = record { path = q; kept = x } in
-    cached_or_invalidated_at (results_with ps ks) q k d (ap (λ l. index_in l q) (paths-with ps ks even) ∙ found)
+    result_at_index (results_with ps ks) q k d (ap (λ l. index_in l q) (paths-with ps ks even) ∙ found)
     ∙ ap (λ (y : Kept). Some y) (with-at ps ks k d x even (place_within ps q k (length ks) even found) ∙ sym is)
 
 -- a path that has no place has no answer

@@ -16,7 +16,7 @@ use Rattle.rv_jobs.specs.declared.kept.Kept.TheVariants.{Unreadable}
 use Rattle.rv_jobs.specs.Plans.{with_path, with_path_if_any, with_job_paths, paths_used, same_as_jobs, jobs_needed_at, jobs_needed_for}
 use Rattle.rv_jobs.specs.Plans.{paths_of, result_of_path, HasResults}
 use Rattle.std.proofs.Common.{IsTrue, subst}
-use Rattle.rv_jobs.proofs.Answering.{cached_or_invalidated_at}
+use Rattle.rv_jobs.proofs.Answering.{result_at_index}
 use Rattle.rv_jobs.proofs.Answering.{with_path-old, with_path-new, no_place, new_place, keeps_place}
 
 -- ---- paths that are there
@@ -125,7 +125,7 @@ job_used js k d inside = has_old (fold with_job_paths [] js) (get_or js k d) (ha
 answered : (answers : List PathResult) (p : List ℕ) → IsThere (paths_of answers) p → IsTrue (is_some (result_of_path answers p))
 answered answers p h =
     let t = place_there (index_in (paths_of answers) p) h in
-    ap is_some (cached_or_invalidated_at answers p t.0 (record { path = p; kept = Unreadable }) t.1)
+    ap is_some (result_at_index answers p t.0 (record { path = p; kept = Unreadable }) t.1)
 
 answered_if : (answers : List PathResult) (o : Option (List ℕ))
     → ((p : List ℕ) → o ≡ Some p → IsThere (paths_of answers) p)

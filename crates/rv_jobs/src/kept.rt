@@ -17,7 +17,7 @@ pub enum Kept {
     TooLong,
 }
 
-/// Reads the file at a path, and returns its contents, or that it is too long or unreadable.
+/// Reads the file at a path: returns its contents, `TooLong` or `Unreadable`.
 pub(crate) fn read_path<S: Store>(
     alloc: Global,
     store: &mut S,

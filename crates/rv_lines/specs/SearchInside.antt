@@ -1,4 +1,4 @@
--- How each span changes what has been found for each address.
+-- How each span changes the source line of each address.
 use Rattle.std.specs.Prelude.{◌+◌, ℕ, Bool, true, List, [], ◌∷◌, nat_lt, Option, Some, None, if◌then◌else◌, option_and_then, Result, Ok, Err}
 use Rattle.std.specs.List.Sorted.{IsNonDecreasingBy}
 use Rattle.std.specs.Option.{option_map_or, option_or}
@@ -14,34 +14,34 @@ use Rattle.rv_lines.specs.Lines.{covers, with_line}
 use Rattle.rv_lines.specs.Reading.{◌>>=◌}
 use Rattle.rv_lines.specs.Rows.{lacks_file, program_rows}
 
--- whether a source line replaces what was found: nothing, or a source line with a smaller `low`
+-- whether a source line replaces `found`: no source line, or one with a smaller `low`
 abbrev pub is_higher : SourceLine → Option SourceLine → Bool
 is_higher source found = option_map_or (λ f. nat_lt f.low source.low) found true
 
--- the source line if it replaces what was found, and otherwise what was found
+-- the source line if it replaces `found`, and otherwise `found`
 abbrev pub higher : SourceLine → Option SourceLine → Option SourceLine
 higher source found = if is_higher source found then Some source else found
 
--- what is found for an address after one more span
+-- the source line of the address `a` after one more span: that of the span if it covers `a` and has a greater `low`, and otherwise `found`
 abbrev pub note_span_at : Span → ℕ → Option SourceLine → Option SourceLine
 note_span_at s a found = if covers a s then higher s.source found else found
 
--- what is found for each address after one more span
+-- the source line of each address after one more span
 abbrev pub noted_each : Span → List ℕ → List (Option SourceLine) → List (Option SourceLine)
 noted_each s [] found = []
 noted_each s (a ∷ addresses) [] = []
 noted_each s (a ∷ addresses) (f ∷ found) = note_span_at s a f ∷ noted_each s addresses found
 
--- what is found for each address after more spans
+-- the source line of each address after more spans
 abbrev pub noted_all : List Span → List ℕ → List (Option SourceLine) → List (Option SourceLine)
 noted_all [] addresses found = found
 noted_all (s ∷ spans) addresses found = noted_all spans addresses (noted_each s addresses found)
 
--- what was found, or nothing if its line is 0
+-- the source line, or `None` if its line is 0
 abbrev pub drop_line_0 : Option SourceLine → Option SourceLine
 drop_line_0 found = option_and_then with_line found
 
--- `None`, whatever was found
+-- `None`, whatever the source line is
 abbrev pub clear : Option SourceLine → Option SourceLine
 clear found = None
 

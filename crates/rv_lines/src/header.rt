@@ -73,7 +73,7 @@ pub(crate) fn header_at<'a>(
 ) -> Result<(Header<'a>, &'a [u8]), UnitError>
     ensures value { Gives (λ x. (view_header x.0, x.1.now)) result
         (header_summary_at requested (header_at (view_strings strings.now) bytes.now)) }
-    ensures divides { IfOk result (λ x. 0 < x.0.parameters.line_range) }
+    ensures line_range { IfOk result (λ x. 0 < x.0.parameters.line_range) }
 {
     let (version, fields, program) = frame_at(bytes)?;
     let header = fields_of_header(strings, requested, version, fields)?;
@@ -137,7 +137,7 @@ fn fields_of_header<'a>(
     bytes: &'a [u8],
 ) -> Result<Header<'a>, UnitError>
     ensures value { Gives view_header result (header_summary_of requested (fields_of_header (view_strings strings.now) version bytes.now)) }
-    ensures divides { IfOk result (λ header. 0 < header.parameters.line_range) }
+    ensures line_range { IfOk result (λ header. 0 < header.parameters.line_range) }
 {
     let first = first_number(version);
     let directory = index_of(first, requested.directory);
@@ -196,7 +196,7 @@ fn entries_of_version<'a>(
 #[tactic(auto, unfolding(crate::specs::Header::parameters_at))]
 fn parameters_at(version: u16, bytes: &[u8]) -> Result<(Parameters, &[u8]), UnitError>
     ensures value { Gives (λ x. (x.0, x.1.now)) result (parameters_at version bytes.now) }
-    ensures divides { IfOk result (λ x. 0 < x.0.line_range) }
+    ensures line_range { IfOk result (λ x. 0 < x.0.line_range) }
 {
     let (min_length, rest) = byte_at(UnitError::HeaderCutOff, bytes)?;
     let rest = operations_check(version, rest)?;

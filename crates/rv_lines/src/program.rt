@@ -29,7 +29,7 @@ pub(crate) fn note_program(
 ) -> Result<(), UnitError>
     requires line_range { 0 < program.now.parameters.line_range }
     requires rising { IsRising addresses.now }
-    requires places { length found.old ≡ length addresses.now }
+    requires same_length { length found.old ≡ length addresses.now }
     ensures value { result ≡ checked_only (rows_of_program program.now) }
     ensures found { IfOk (rows_of_program program.now)
         (λ rows. found.new ≡ noted_all (spans_after program.now.unit None rows) addresses.now found.old) }
@@ -68,7 +68,7 @@ fn check_file(added: Option<Row>, files: FileNumbers) -> Result<(), UnitError>
     }
 }
 
-// Records the span of the row `before`, if a row was added after it. A row that covers no address has no span.
+// Records the source line of the row `before` for the addresses from this row to the row `added`, if both exist.
 fn note_row(
     unit: u32,
     before: Option<Row>,
@@ -77,7 +77,7 @@ fn note_row(
     found: &mut [Option<SourceLine>],
 )
     requires rising { IsRising addresses.now }
-    requires places { length found.old ≡ length addresses.now }
+    requires same_length { length found.old ≡ length addresses.now }
     ensures { found.new ≡ noted_all (spans_after unit before (in_front added [])) addresses.now found.old }
 {
     if let (Some(row), Some(next)) = (before, added)

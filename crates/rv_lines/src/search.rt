@@ -33,11 +33,11 @@ pub fn find_lines(
     found: &mut [Option<SourceLine>],
 ) -> RejectedUnits
     requires rising { IsRising addresses.now }
-    requires places { length found.old ≡ length addresses.now }
+    requires same_length { length found.old ≡ length addresses.now }
     ensures lines { found.new ≡ map (line_at (view_strings tables.now.strings) tables.now.lines.now) addresses.now }
     ensures rejected { result ≡ rejected_units (units_of (view_strings tables.now.strings) tables.now.lines.now) }
 {
-    forget_all(found);
+    clear_all(found);
     let mut rejected = RejectedUnits {
         units: 0,
         rejected: 0,
@@ -49,7 +49,7 @@ pub fn find_lines(
         rejected = rejected.after(offset as u32, read);
         offset += unit_size(bytes_from(tables.lines, offset));
     }
-    show_lines(found);
+    drop_results_on_line_0(found);
     rejected
 }
 
@@ -75,7 +75,7 @@ impl RejectedUnits {
 }
 
 // Sets all results to `None`.
-fn forget_all(found: &mut [Option<SourceLine>])
+fn clear_all(found: &mut [Option<SourceLine>])
     ensures { found.new ≡ map clear found.old }
 {
     for k in 0..found.len() {
@@ -84,7 +84,7 @@ fn forget_all(found: &mut [Option<SourceLine>])
 }
 
 // Replaces results with line 0, which means that the line is not known, by `None`.
-fn show_lines(found: &mut [Option<SourceLine>])
+fn drop_results_on_line_0(found: &mut [Option<SourceLine>])
     ensures { found.new ≡ map drop_line_0 found.old }
 {
     for k in 0..found.len() {

@@ -47,7 +47,7 @@ impl Span {
 /// Records the source line of a span for each address that it covers, unless the address has one with an equal or greater `low`.
 pub(crate) fn note_span(span: &Span, addresses: &[u32], found: &mut [Option<SourceLine>])
     requires rising { IsRising addresses.now }
-    requires places { length found.old ≡ length addresses.now }
+    requires same_length { length found.old ≡ length addresses.now }
     ensures { found.new ≡ noted_each span.now addresses.now found.old }
 {
     let mut k = addresses.partition_point(|address| *address < span.from);

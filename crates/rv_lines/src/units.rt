@@ -33,7 +33,7 @@ pub(crate) fn note_unit(
     found: &mut [Option<SourceLine>],
 ) -> Result<(), UnitError>
     requires rising { IsRising addresses.now }
-    requires places { length found.old ≡ length addresses.now }
+    requires same_length { length found.old ≡ length addresses.now }
     ensures value { result ≡ checked_only (rows_at (view_strings tables.now.strings) (drop offset tables.now.lines.now)) }
     ensures found { found.new ≡ noted_all
         (spans_of_rows offset (rows_at (view_strings tables.now.strings) (drop offset tables.now.lines.now))) addresses.now found.old }
@@ -49,7 +49,7 @@ fn program_of<'a>(tables: &LineTables<'a>, offset: u32) -> Result<Program<'a>, U
     ensures value { MatchResult result
         (λ p. rows_at (view_strings tables.now.strings) (drop offset tables.now.lines.now) ≡ rows_of_program p)
         (λ e. rows_at (view_strings tables.now.strings) (drop offset tables.now.lines.now) ≡ Err e) }
-    ensures divides { IfOk result (λ p. 0 < p.parameters.line_range) }
+    ensures line_range { IfOk result (λ p. 0 < p.parameters.line_range) }
     ensures unit { IfOk result (λ p. p.unit ≡ offset) }
 {
     let bytes = unit_bytes(bytes_from(tables.lines, offset as usize))?;

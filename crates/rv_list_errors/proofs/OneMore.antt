@@ -51,15 +51,15 @@ lines_so (Ok done) Is Other faults before after so (messages, told, is) =
 lines_so (Err error) Is Other faults before after so puts = tt
 
 -- there are as many lines as faults
-count_executions : (Is : JobError → List ℕ → Type 0) (faults : List JobError) (messages : List (List ℕ))
+line_count : (Is : JobError → List ℕ → Type 0) (faults : List JobError) (messages : List (List ℕ))
     → EachFaultHasMessage Is faults messages → length messages ≡ length faults
-count_executions Is [] [] told = refl
-count_executions Is (fault ∷ faults) (message ∷ messages) told = ap suc (count_executions Is faults messages told.1)
-count_executions Is [] (message ∷ messages) told = elim told [ ]
-count_executions Is (fault ∷ faults) [] told = elim told [ ]
+line_count Is [] [] told = refl
+line_count Is (fault ∷ faults) (message ∷ messages) told = ap suc (line_count Is faults messages told.1)
+line_count Is [] (message ∷ messages) told = elim told [ ]
+line_count Is (fault ∷ faults) [] told = elim told [ ]
 
 pub count_of_lines : {T E : Type 0} (result : Result T E) (Is : JobError → List ℕ → Type 0) (faults : List JobError)
     (before after : List ℕ) → OnOk result (AppendsLineOfEach Is faults before after)
     → OnOk result (AppendsLines (length faults) before after)
-count_of_lines (Ok done) Is faults before after (messages, told, is) = (messages, count_executions Is faults messages told, is)
+count_of_lines (Ok done) Is faults before after (messages, told, is) = (messages, line_count Is faults messages told, is)
 count_of_lines (Err error) Is faults before after puts = tt

@@ -25,10 +25,10 @@ abbrev pub is_negative : Option ℤ → Bool
 is_negative None = false
 is_negative (Some number) = int_lt number (pos 0)
 
--- how a list must write a negative exit code, which is an unsigned number there; nothing if the code is not negative
+-- how to write a negative exit code, since lists use unsigned numbers; empty if the code is not negative
 abbrev pub negative_exit_text : Bool → List ℕ
 negative_exit_text false = codes ""
-negative_exit_text true = codes "; write -1 as 4294967295"
+negative_exit_text true = codes "; for example, write -1 as 4294967295"
 
 -- the explanation of a bad `expect_exit`, given its value, if that is an integer: the key whose value is shown, and the words
 abbrev pub exit_explanation : Option ℤ → Option (List ℕ) × List ℕ

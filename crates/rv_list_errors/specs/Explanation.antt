@@ -40,12 +40,12 @@ IsShownValue value shown = MatchOption (as_str value)
 abbrev pub missing_key_text : List ℕ → List ℕ
 missing_key_text key = codes "missing key \"" ++ (key ++ codes "\"")
 
--- `text` is the key with its value, or that the key is missing
+-- `text` shows the key and its value, or says that the key is missing
 abbrev pub IsKeyAndValue : List ℕ → Option Data → List ℕ → Type 0
 IsKeyAndValue key None text = text ≡ missing_key_text key
 IsKeyAndValue key (Some value) text = (shown : List ℕ) × IsShownValue value shown × (text ≡ key ++ codes " = " ++ shown)
 
--- `message` is the key with its value, or that it is missing, and then `expected`, which is expected of the value
+-- `message` shows the key and its value, or says that the key is missing, and then has the text `expected`, which says what is expected
 abbrev pub IsExpectedValue : List ℕ → Option Data → List ℕ → List ℕ → Type 0
 IsExpectedValue key value expected message =
     (key_and_value : List ℕ) × IsKeyAndValue key value key_and_value × (message ≡ key_and_value ++ (codes ": " ++ expected))

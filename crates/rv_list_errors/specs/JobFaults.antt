@@ -163,7 +163,8 @@ text_length (Some text) = length text
 abbrev pub expected_text : Expected → List ℕ
 expected_text expected = expected.before.now ++ (inserted_text expected.rest ++ expected.behind.now)
 
--- `message` is the key with its value, or that it is missing, then the number of bytes if there are too many, and then what is expected
+-- `message` shows the key and its value, or says that the key is missing; then it gives the number of bytes if there are too many, and
+-- says what is expected
 abbrev pub ExplainsExpectedValue : Expected → Members → List ℕ → Type 0
 ExplainsExpectedValue expected ms message = (key_and_value : List ℕ) × IsKeyAndValue expected.key.now (get_member expected.key.now ms) key_and_value
     × (message ≡ key_and_value ++ (bytes_text expected.rest (shown_byte_count expected.bytes (text_length (text_at_key expected.key.now ms)))
@@ -186,11 +187,11 @@ key_of _ = None
 
 -- ---- values of the wrong type
 
--- `message` begins with the key and its value, or that it is missing
+-- `message` first shows the key and its value, or says that the key is missing
 abbrev pub BeginsWithValue : List ℕ → Members → List ℕ → Type 0
 BeginsWithValue key ms message = (key_and_value : List ℕ) × IsKeyAndValue key (get_member key ms) key_and_value × BeginsWith key_and_value message
 
--- `message` begins with the key and its value, or with the number of a region
+-- `message` first shows the key and its value, or says that the key is missing, or it begins with `region `
 abbrev pub BeginsWithRegion : List ℕ → Members → List ℕ → Type 0
 BeginsWithRegion key ms message = BeginsWithValue key ms message ⊎ BeginsWith (codes "region ") message
 
@@ -255,8 +256,8 @@ abbrev pub job_of_name_text : Option ℕ → List ℕ
 job_of_name_text None = []
 job_of_name_text (Some number) = codes ", but job " ++ (decimal number ++ codes " has this name")
 
--- `message` is the key and its value, or that the key is missing, then what is expected, and then the number of the first job with this
--- name, if there is one
+-- `message` shows the key and its value, or says that the key is missing; then it says what is expected, and gives the number of the first
+-- job with this name, if there is one
 abbrev pub ExplainsName : List (Option (List ℕ)) → List ℕ → List ℕ → Members → List ℕ → Type 0
 ExplainsName names key expected ms message = (key_and_value : List ℕ) × IsKeyAndValue key (get_member key ms) key_and_value
     × (message ≡ key_and_value ++ (codes ": " ++ (expected ++ job_of_name_text (number_of_name names (text_at_key key ms)))))
@@ -265,7 +266,8 @@ ExplainsName names key expected ms message = (key_and_value : List ℕ) × IsKey
 abbrev pub unique_name_text : List ℕ
 unique_name_text = codes "expected a unique name"
 
--- `message` begins with `same_as` and its value, what is expected of it, and the number of the first job with this name, if any
+-- `message` first shows `same_as` and its value, or says that the key is missing; then it says what is expected, and gives the number of
+-- the first job with this name, if there is one
 abbrev pub ExplainsSameAs : List (Option (List ℕ)) → Members → List ℕ → Type 0
 ExplainsSameAs names ms message = (head : List ℕ)
     × ExplainsName names (codes "same_as") (codes "expected the name of an earlier job") ms head × BeginsWith head message

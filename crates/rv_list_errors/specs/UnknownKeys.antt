@@ -9,11 +9,11 @@ use Rattle.rv_list_errors.specs.declared.keys.Owner.TheVariants as owner
 abbrev pub ExplainsUnknownRegionKey : List ℕ → Type 0
 ExplainsUnknownRegionKey message = BeginsWith (codes "region ") message ⊎ (message ≡ codes "unknown key")
 
--- `message` explains that this key of the job is unknown; without a key, that a region has an unknown key
+-- `message` explains that this key of the job is unknown or, if no key is given, that a region has an unknown key
 abbrev pub ExplainsUnknownJobOrRegionKey : Option (List ℕ) → List ℕ → Type 0
 ExplainsUnknownJobOrRegionKey None message = ExplainsUnknownRegionKey message
 ExplainsUnknownJobOrRegionKey (Some key) message = BeginsWith (unknown_key_text key) message
 
--- `message` explains the first key of the job that jobs do not have, or that a region has an unknown key
+-- `message` explains the first unknown key of the job or, if the job itself has none, that a region has an unknown key
 abbrev pub ExplainsUnknownKey : Members → List ℕ → Type 0
 ExplainsUnknownKey ms message = ExplainsUnknownJobOrRegionKey (first_unknown_key (is_key_of_owner owner.Job) ms) message

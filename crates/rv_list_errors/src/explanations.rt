@@ -129,7 +129,7 @@ pub(crate) const NEGATIVE_EXIT: Expected = Expected {
     key: "expect_exit",
     before: "expected an integer from 0 to ",
     rest: InsertedText::Maximum(u32::MAX as u64),
-    behind: "; write -1 as 4294967295",
+    behind: "; for example, write -1 as 4294967295",
     bytes: Bytes::Untold,
 };
 
@@ -236,7 +236,8 @@ pub(crate) fn push_explanation(message: &mut Message, table: &Table, explanation
     }
 }
 
-// Appends the key of `expected` with the job's value, or that the key is missing, and then what is expected of the value.
+// Appends a text that shows the key of `expected` and the job's value, or says that the key is missing, and then says what is expected of
+// the value.
 fn push_expected(message: &mut Message, table: &Table, expected: &Expected)
     ensures { AppendsTextThat message.old message.new (ExplainsExpectedValue expected.now (table_view table.now)) }
 {
@@ -244,7 +245,7 @@ fn push_expected(message: &mut Message, table: &Table, expected: &Expected)
     push_expected_text(message, reported_byte_count(table, expected), expected);
 }
 
-// Appends the number of bytes in parentheses, if it exceeds the maximum, and then what is expected of the value.
+// Appends the number of bytes in parentheses, if it exceeds the maximum, and then the text that says what is expected of the value.
 fn push_expected_text(message: &mut Message, bytes: u64, expected: &Expected)
     ensures { Adds message.old message.new (bytes_text expected.now.rest bytes ++ (codes ": " ++ expected_text expected.now)) }
 {

@@ -173,7 +173,7 @@ fn fault_explanation(
     }
 }
 
-// Returns why a text is not TOML, or that it is an ELF file, which cannot be TOML.
+// Returns the message why a text is not TOML, or that it is an ELF file, which cannot be TOML.
 fn not_toml_explanation(alloc: Global, text: &[u8], error: &Error) -> Result<Vec<u8>, AllocError>
     ensures { IfOk result (λ explanation. IsTrue (is_elf_file text.now) → explanation.items ≡ elf_file_text) }
 {
@@ -184,7 +184,7 @@ fn not_toml_explanation(alloc: Global, text: &[u8], error: &Error) -> Result<Vec
     }
 }
 
-// Returns the text that the file is an ELF file, not a job list.
+// Returns the message that the file is an ELF file, not a job list.
 fn elf_file_explanation(alloc: Global) -> Result<Vec<u8>, AllocError>
     ensures { IfOk result (λ text. text.items ≡ elf_file_text) }
 {

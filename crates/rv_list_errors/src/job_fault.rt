@@ -132,7 +132,7 @@ fn key_explanation(table: &Table, kind: What) -> Explanation
     }
 }
 
-/// Returns the explanation of a job's bad `isa`: which part of the set is not simulated, if it is a common one, and the known sets.
+/// Returns the explanation of a job's bad `isa`. It lists the known sets, and may first say which part of the job's set is not simulated.
 pub(crate) fn isa_explanation(table: &Table) -> Explanation
     ensures { (explained_key result, explained_text result) ≡ isa_explanation (table_view table.now) }
 {
@@ -142,8 +142,8 @@ pub(crate) fn isa_explanation(table: &Table) -> Explanation
     }
 }
 
-// Returns the explanation of an unknown instruction set with this name: RV64 and unsimulated extensions are named, and the known sets are
-// listed.
+// Returns the explanation for an unknown `isa`. It lists the known sets. If the set is RV64, or if A, F or D is its first extension that is
+// not simulated, it says this first.
 fn unknown_isa_explanation(isa: &[u8]) -> Explanation
     ensures key { explained_key result ≡ Some (codes "isa") }
     ensures words { explained_text result ≡ unknown_isa_text isa.now }
@@ -157,8 +157,8 @@ fn unknown_isa_explanation(isa: &[u8]) -> Explanation
     }
 }
 
-// Returns the explanation of an unknown instruction set with these letters after `rv32`: an A, F or D extension is named, and the known
-// sets are listed.
+// Returns the explanation for an unknown `isa` with these letters after `rv32`. It lists the known sets. If the first extension that is not
+// simulated is A, F or D, it says this first.
 fn unknown_letters_explanation(letters: &[u8]) -> Explanation
     ensures key { explained_key result ≡ Some (codes "isa") }
     ensures words { explained_text result ≡ unknown_letters_text letters.now }

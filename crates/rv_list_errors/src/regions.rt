@@ -103,7 +103,7 @@ fn region_of_element(element: &Value) -> Option<Region> {
     }
 }
 
-// Appends what is wrong with the region at an index: its base if that is not a 32-bit number, else its size; or that it is not a table.
+// Appends a message about the region at an index: it is not a table, or its base is not a 32-bit number, or else its size is invalid.
 fn push_bad_base_or_size(message: &mut Message, index: usize, element: &Value)
     ensures { index + 1 < 2 ^ 64 → AppendsTextThat message.old message.new ExplainsRegions }
 {
@@ -171,7 +171,8 @@ fn push_unaligned(message: &mut Message, index: usize, region: &Region)
     }
 }
 
-// Appends the first region that is too small or extends past the last address, or that the sizes add up to too much.
+// Appends a message about the first region that is too small or extends past the last address; if there is none, the message says that the
+// sizes add up to too much.
 fn push_region_size_fault(message: &mut Message, regions: &[Region])
     ensures { AppendsTextThat message.old message.new ExplainsRegions }
 {
@@ -191,7 +192,7 @@ fn index_of_badly_sized_region(regions: &[Region]) -> Option<usize>
 // The number of addresses.
 const ADDRESS_COUNT: u64 = 0x1_0000_0000;
 
-// Appends that the region at an index is too small, or extends past the last address.
+// Appends the message that the region at an index is too small, or extends past the last address.
 fn push_badly_sized_region(message: &mut Message, index: usize, region: &Region)
     ensures { index + 1 < 2 ^ 64 → AppendsTextThat message.old message.new ExplainsRegions }
 {

@@ -55,7 +55,7 @@ pub(crate) fn elements_at_key<'a>(table: &'a Table, key: &str) -> &'a [Value]
     }
 }
 
-/// Appends a key and its value, or that it is missing.
+/// Appends a text that shows a key and its value, or says that the key is missing.
 pub(crate) fn push_key_and_value(message: &mut Message, table: &Table, key: &str)
     ensures { AppendsTextThat message.old message.new
         (IsKeyAndValue key.now (get_member key.now (table_view table.now))) }
@@ -75,7 +75,7 @@ fn push_key_with_value(message: &mut Message, key: &str, value: &Value)
     message.push_value(value);
 }
 
-// Appends that a key is missing.
+// Appends the message that a key is missing.
 fn push_missing_key(message: &mut Message, key: &str)
     ensures { Adds message.old message.new (missing_key_text key.now) }
 {
@@ -84,7 +84,8 @@ fn push_missing_key(message: &mut Message, key: &str)
     message.push("\"");
 }
 
-/// Appends a key and its value, or that it is missing, and what is expected of the value.
+/// Appends a text that shows a key and its value, or says that the key is missing, and then has the text `expected`, which says what is
+/// expected.
 pub(crate) fn push_expected_value(message: &mut Message, table: &Table, key: &str, expected: &str)
     ensures { AppendsTextThat message.old message.new
         (IsExpectedValue key.now (get_member key.now (table_view table.now)) expected.now) }

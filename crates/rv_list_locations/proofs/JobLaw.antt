@@ -17,7 +17,7 @@ use Rattle.rv_list_locations.specs.JobStarts.{BeginsWithElement, BeginsWithJobHe
 use Rattle.rv_list_locations.specs.JobLocations.{Step, array_header, after_comma, after_equals, text_after_line, after_value, element}
 use Rattle.rv_list_locations.specs.JobLocations.{header, is_job, is_top, job_lines, job_texts_from, job_texts_of_step, keyed_entry}
 use Rattle.rv_list_locations.specs.JobLocations.{jobs_of_text, line_of_suffix, step, table_header}
-use Rattle.rv_list_locations.proofs.Tails.{IsValidEnd, LeavesEnd, after_comma-end, after_equals-end, text_after_line-end, after_value-end}
+use Rattle.rv_list_locations.proofs.Tails.{IsSuffix, LeavesEnd, after_comma-end, after_equals-end, text_after_line-end, after_value-end}
 use Rattle.rv_list_locations.proofs.Tails.{end_drop, end_of_end, key-end, skip_bom-end, skip_from-end, skip_ws-end}
 use Rattle.rv_list_locations.proofs.Tails.{some_either, some_map, some_then}
 
@@ -34,7 +34,7 @@ Comes list Table text = Unit {0}
 record StepIs (list text : List ℕ) (found : Step) : Type 0 where
   job : found.0 ≡ true → BeginsJob list text
   next : Comes list found.1 found.2
-  rest : IsValidEnd text found.2
+  rest : IsSuffix text found.2
 
 job_name : (name : Key) → is_job name ≡ true → name ≡ ([], codes "job")
 job_name (path, last) is =
@@ -111,7 +111,7 @@ equals_read text name read is open_now =
       | inr none ↦ absurd (false≢true (rw none at open_now))
     ]
 
-entry-is : (list text : List ℕ) (next : ScanState) → ((rest : List ℕ) → Comes list next rest) → IsValidEnd list text →
+entry-is : (list text : List ℕ) (next : ScanState) → ((rest : List ℕ) → Comes list next rest) → IsSuffix list text →
     IfSome (keyed_entry next text) (StepIs list text)
 unfolding keyed_entry
 entry-is list text next comes ends =
@@ -137,7 +137,7 @@ entry-is list text next comes ends =
       rest = end_of_end text (drop 1 value) (skip_blank (drop 1 value)) (end_of_end text value (drop 1 value) near (end_drop 1 value))
           (skip_from-end true false (drop 1 value));
     })
-    (λ _. some_map (IsValidEnd value) (StepIs list text) (after_value value) (λ rest. (false, next, text_after_line rest))
+    (λ _. some_map (IsSuffix value) (StepIs list text) (after_value value) (λ rest. (false, next, text_after_line rest))
     (after_value-end value)
     (λ rest is far_rest. record {
       job = λ is. absurd (false≢true is);
@@ -157,7 +157,7 @@ element-is list text inside =
       next = tt;
       rest = end_of_end text (drop 1 text) (text_after_line (drop 1 text)) (end_drop 1 text) (text_after_line-end (drop 1 text));
     })
-    (λ other. some_map (IsValidEnd text) (StepIs list text) (after_value text) (λ rest. (true, Element, after_comma rest))
+    (λ other. some_map (IsSuffix text) (StepIs list text) (after_value text) (λ rest. (true, Element, after_comma rest))
     (after_value-end text)
     (λ rest is far. record {
       job = λ _. inr (inside, eqb-false (first text) right_bracket other);
@@ -167,7 +167,7 @@ element-is list text inside =
 
 -- ---- all steps
 
-step-is : (list text : List ℕ) (next : ScanState) → IsValidEnd list text → Comes list next text → IfSome (step next text) (StepIs list text)
+step-is : (list text : List ℕ) (next : ScanState) → IsSuffix list text → Comes list next text → IfSome (step next text) (StepIs list text)
 unfolding step
 step-is list text Element ends comes = element-is list text comes
 step-is list text Top ends comes =
@@ -179,11 +179,11 @@ step-is list text Table ends comes =
 
 -- the end of a list at which a job begins
 abbrev IsJobText : List ℕ → List ℕ → Type 0
-IsJobText list text = IsValidEnd list text × BeginsJob list text
+IsJobText list text = IsSuffix list text × BeginsJob list text
 
 job_texts_of_step-are : (list text : List ℕ) (jobs : ScanState → List ℕ → List (List ℕ)) →
-    ((next : ScanState) (rest : List ℕ) → IsValidEnd list rest → Comes list next rest → All (IsJobText list) (jobs next rest)) →
-    IsValidEnd list text → (found : Option Step) → IfSome found (StepIs list text) →
+    ((next : ScanState) (rest : List ℕ) → IsSuffix list rest → Comes list next rest → All (IsJobText list) (jobs next rest)) →
+    IsSuffix list text → (found : Option Step) → IfSome found (StepIs list text) →
     All (IsJobText list) (job_texts_of_step jobs text found)
 job_texts_of_step-are list text jobs are ends None is = All-nil (IsJobText list)
 job_texts_of_step-are list text jobs are ends (Some found) is =
@@ -191,7 +191,7 @@ job_texts_of_step-are list text jobs are ends (Some found) is =
     cond_both found.0 (text ∷ jobs found.1 found.2) (jobs found.1 found.2) (All (IsJobText list))
     (λ job. All-cons (IsJobText list) text (jobs found.1 found.2) (ends, is.job job) more) (λ _. more)
 
-jobs-are : (list : List ℕ) (n : ℕ) (next : ScanState) (text : List ℕ) → IsValidEnd list text → Comes list next text →
+jobs-are : (list : List ℕ) (n : ℕ) (next : ScanState) (text : List ℕ) → IsSuffix list text → Comes list next text →
     All (IsJobText list) (job_texts_from n next text)
 unfolding job_texts_from
 jobs-are list zero next text ends comes = All-nil (IsJobText list)
@@ -200,7 +200,7 @@ jobs-are list (suc n) next text ends comes =
     (λ _. All-nil (IsJobText list))
     (λ _. job_texts_of_step-are list text (job_texts_from n) (jobs-are list n) ends (step next text) (step-is list text next ends comes))
 
-jobs_of_text-are : (list text : List ℕ) → IsValidEnd list text → All (IsJobText list) (jobs_of_text text)
+jobs_of_text-are : (list text : List ℕ) → IsSuffix list text → All (IsJobText list) (jobs_of_text text)
 unfolding jobs_of_text
 jobs_of_text-are list text ends =
     jobs-are list (suc (length text)) Top (skip_blank text)
@@ -209,7 +209,7 @@ jobs_of_text-are list text ends =
 -- ---- lines
 
 -- an end of a text stands where it begins
-at_end : (text rest : List ℕ) → IsValidEnd text rest → drop (length text - length rest) text ≡ rest
+at_end : (text rest : List ℕ) → IsSuffix text rest → drop (length text - length rest) text ≡ rest
 at_end text rest (n, is) =
     elim (cases_lt n (length text)) [
       | inl within ↦

@@ -18,19 +18,19 @@ use Rattle.rv_list_locations.specs.JobLocations.{is_in_word, is_opening, is_punc
 
 -- ---- ends of texts
 
-abbrev pub IsValidEnd : List ℕ → List ℕ → Type 0
-IsValidEnd text rest = (n : ℕ) × (rest ≡ drop n text)
+abbrev pub IsSuffix : List ℕ → List ℕ → Type 0
+IsSuffix text rest = (n : ℕ) × (rest ≡ drop n text)
 
-pub end_whole : (text : List ℕ) → IsValidEnd text text
+pub end_whole : (text : List ℕ) → IsSuffix text text
 end_whole text = (0, refl)
 
-pub end_drop : (n : ℕ) (text : List ℕ) → IsValidEnd text (drop n text)
+pub end_drop : (n : ℕ) (text : List ℕ) → IsSuffix text (drop n text)
 end_drop n text = (n, refl)
 
-pub end_nil : (text : List ℕ) → IsValidEnd text []
+pub end_nil : (text : List ℕ) → IsSuffix text []
 end_nil text = (length text, sym (drop_all (length text) text (omega arith)))
 
-pub end_of_end : (text mid rest : List ℕ) → IsValidEnd text mid → IsValidEnd mid rest → IsValidEnd text rest
+pub end_of_end : (text mid rest : List ℕ) → IsSuffix text mid → IsSuffix mid rest → IsSuffix text rest
 end_of_end text mid rest (n, one) (m, two) = (n + m, two ∙ ap (drop m) one ∙ drop-drop m n text)
 
 -- ---- steps that may fail
@@ -56,7 +56,7 @@ some_map P Q (Some a) f holds next = next a refl holds
 
 -- the text behind a value that is read
 abbrev pub LeavesEnd : {A : Type 0} → List ℕ → A × List ℕ → Type 0
-LeavesEnd text read = IsValidEnd text read.1
+LeavesEnd text read = IsSuffix text read.1
 
 pub some_weaker : {A : Type 0} (P Q : A → Type 0) (o : Option A) → ((a : A) → P a → Q a) → IfSome o P → IfSome o Q
 some_weaker P Q None next holds = tt
@@ -68,17 +68,17 @@ some_any (Some a) = tt
 
 -- ---- blanks
 
-pub skip_ws-end : (text : List ℕ) → IsValidEnd text (skip_ws text)
+pub skip_ws-end : (text : List ℕ) → IsSuffix text (skip_ws text)
 unfolding skip_ws
 skip_ws-end text = (prefix_len is_ws text, refl)
 
-pub skip_from-end : (comments inside : Bool) (text : List ℕ) → IsValidEnd text (skip_from comments inside text)
+pub skip_from-end : (comments inside : Bool) (text : List ℕ) → IsSuffix text (skip_from comments inside text)
 unfolding skip_from
 skip_from-end comments inside [] = (0, refl)
 skip_from-end comments inside (c ∷ cs) =
     let turn = skip_turn comments inside c (first cs) in
     let rest = skip_from-end comments (unwrap_or turn false) cs in
-    if_either (IsValidEnd (c ∷ cs)) (is_some turn) (skip_from comments (unwrap_or turn false) cs) (c ∷ cs)
+    if_either (IsSuffix (c ∷ cs)) (is_some turn) (skip_from comments (unwrap_or turn false) cs) (c ∷ cs)
     (suc rest.0, rest.1) (0, refl)
 
 -- ---- strings
@@ -133,14 +133,14 @@ special-end delim multi text =
     (λ _. some_either (LeavesEnd text) (multi && starts_newline text) (Some (Some (first text ∷ []), behind)) None
     (λ _. end_drop 1 text) (λ _. tt)))
 
-prepend-end : (text front mid : List ℕ) (read : Read (List ℕ)) → IsValidEnd text mid → IfSome read (LeavesEnd mid) →
+prepend-end : (text front mid : List ℕ) (read : Read (List ℕ)) → IsSuffix text mid → IfSome read (LeavesEnd mid) →
     IfSome (prepend front read) (LeavesEnd text)
 prepend-end text front mid read near holds =
     some_map (LeavesEnd mid) (LeavesEnd text) read (λ p. (front ++ p.0, p.1)) holds
     (λ p is rest. end_of_end text mid p.1 near rest)
 
 after_piece-end : (text : List ℕ) (more : List ℕ → Read (List ℕ)) → ((mid : List ℕ) → IfSome (more mid) (LeavesEnd mid)) →
-    (piece : Option (List ℕ)) (mid : List ℕ) → IsValidEnd text mid → IfSome (after_piece more piece mid) (LeavesEnd text)
+    (piece : Option (List ℕ)) (mid : List ℕ) → IsSuffix text mid → IfSome (after_piece more piece mid) (LeavesEnd text)
 after_piece-end text more ends None mid near = near
 after_piece-end text more ends (Some bytes) mid near = prepend-end text bytes mid (more mid) near (ends mid)
 
@@ -164,10 +164,10 @@ one_line-end text =
     (λ read rest. end_of_end text (drop 1 text) read.1 (end_drop 1 text) rest)
     (body-end (first text) false (length text) (drop 1 text))
 
-trim_newline-end : (text : List ℕ) → IsValidEnd text (trim_newline text)
+trim_newline-end : (text : List ℕ) → IsSuffix text (trim_newline text)
 trim_newline-end text =
-    if_either (IsValidEnd text) (first text == line_feed) (drop 1 text) (cond (starts_newline text) (drop 2 text) text) (end_drop 1 text)
-    (if_either (IsValidEnd text) (starts_newline text) (drop 2 text) text (end_drop 2 text) (end_whole text))
+    if_either (IsSuffix text) (first text == line_feed) (drop 1 text) (cond (starts_newline text) (drop 2 text) text) (end_drop 1 text)
+    (if_either (IsSuffix text) (starts_newline text) (drop 2 text) text (end_drop 2 text) (end_whole text))
 
 pub quoted-end : (text : List ℕ) → IfSome (quoted text) (LeavesEnd text)
 unfolding quoted
@@ -214,74 +214,74 @@ key-end text = key_after-end recursion_limit [] text
 
 -- ---- values
 
-after_word_bytes-end : (text : List ℕ) → IsValidEnd text (after_word_bytes text)
+after_word_bytes-end : (text : List ℕ) → IsSuffix text (after_word_bytes text)
 after_word_bytes-end [] = (0, refl)
 after_word_bytes-end (byte ∷ rest) =
     let more = after_word_bytes-end rest in
-    if_either (IsValidEnd (byte ∷ rest)) (is_in_word byte (first rest)) (after_word_bytes rest) (byte ∷ rest) (suc more.0, more.1)
+    if_either (IsSuffix (byte ∷ rest)) (is_in_word byte (first rest)) (after_word_bytes rest) (byte ∷ rest) (suc more.0, more.1)
     (0, refl)
 
-after_string_or_word-end : (text : List ℕ) → IfSome (after_string_or_word text) (IsValidEnd text)
+after_string_or_word-end : (text : List ℕ) → IfSome (after_string_or_word text) (IsSuffix text)
 unfolding after_string_or_word after_word
 after_string_or_word-end text =
-    some_either (IsValidEnd text) (starts_string text) (option_map (λ read. read.1) (quoted text))
+    some_either (IsSuffix text) (starts_string text) (option_map (λ read. read.1) (quoted text))
     (cond (is_in_word (first text) (slice_index text 1)) (Some (after_word_bytes text)) None)
-    (λ _. some_map (LeavesEnd text) (IsValidEnd text) (quoted text) (λ read. read.1) (quoted-end text) (λ read is rest. rest))
-    (λ _. some_either (IsValidEnd text) (is_in_word (first text) (slice_index text 1)) (Some (after_word_bytes text)) None
+    (λ _. some_map (LeavesEnd text) (IsSuffix text) (quoted text) (λ read. read.1) (quoted-end text) (λ read is rest. rest))
+    (λ _. some_either (IsSuffix text) (is_in_word (first text) (slice_index text 1)) (Some (after_word_bytes text)) None
     (λ _. after_word_bytes-end text) (λ _. tt))
 
-after_token-end : (text : List ℕ) → IfSome (after_token text) (IsValidEnd text)
+after_token-end : (text : List ℕ) → IfSome (after_token text) (IsSuffix text)
 unfolding after_token
 after_token-end text =
-    some_either (IsValidEnd text) (is_punctuation (first text)) (Some (drop 1 text)) (after_string_or_word text) (λ _. end_drop 1 text)
+    some_either (IsSuffix text) (is_punctuation (first text)) (Some (drop 1 text)) (after_string_or_word text) (λ _. end_drop 1 text)
     (λ _. after_string_or_word-end text)
 
-after_brackets-end : (n depth : ℕ) (text : List ℕ) → IfSome (after_brackets n depth text) (IsValidEnd text)
+after_brackets-end : (n depth : ℕ) (text : List ℕ) → IfSome (after_brackets n depth text) (IsSuffix text)
 unfolding after_brackets
 after_brackets-end zero depth text = tt
 after_brackets-end (suc n) depth text =
     let open_now = depth_after depth (first text) in
-    some_then (IsValidEnd text) (IsValidEnd text) (after_token text)
+    some_then (IsSuffix text) (IsSuffix text) (after_token text)
     (λ rest. cond (open_now == 0) (Some rest) (after_brackets n open_now (skip_blank rest))) (after_token-end text)
     (λ rest is near.
-    some_either (IsValidEnd text) (open_now == 0) (Some rest) (after_brackets n open_now (skip_blank rest)) (λ _. near)
-    (λ _. some_weaker (IsValidEnd (skip_blank rest)) (IsValidEnd text) (after_brackets n open_now (skip_blank rest))
+    some_either (IsSuffix text) (open_now == 0) (Some rest) (after_brackets n open_now (skip_blank rest)) (λ _. near)
+    (λ _. some_weaker (IsSuffix (skip_blank rest)) (IsSuffix text) (after_brackets n open_now (skip_blank rest))
     (λ last far. end_of_end text (skip_blank rest) last (end_of_end text rest (skip_blank rest) near (skip_from-end true false rest)) far)
     (after_brackets-end n open_now (skip_blank rest))))
 
-pub after_value-end : (text : List ℕ) → IfSome (after_value text) (IsValidEnd text)
+pub after_value-end : (text : List ℕ) → IfSome (after_value text) (IsSuffix text)
 unfolding after_value
 after_value-end text =
-    some_either (IsValidEnd text) (is_opening (first text)) (after_brackets (suc (length text)) 0 text) (after_string_or_word text)
+    some_either (IsSuffix text) (is_opening (first text)) (after_brackets (suc (length text)) 0 text) (after_string_or_word text)
     (λ _. after_brackets-end (suc (length text)) 0 text) (λ _. after_string_or_word-end text)
 
 -- ---- lines
 
-pub text_after_line-end : (text : List ℕ) → IsValidEnd text (text_after_line text)
+pub text_after_line-end : (text : List ℕ) → IsSuffix text (text_after_line text)
 unfolding text_after_line
 text_after_line-end text =
     let rest = skip_ws text in
-    if_either (IsValidEnd text) (first rest == hash || first rest == line_feed || first rest == carriage_return) (skip_blank rest) []
+    if_either (IsSuffix text) (first rest == hash || first rest == line_feed || first rest == carriage_return) (skip_blank rest) []
     (end_of_end text rest (skip_blank rest) (skip_ws-end text) (skip_from-end true false rest)) (end_nil text)
 
-pub after_comma-end : (text : List ℕ) → IsValidEnd text (after_comma text)
+pub after_comma-end : (text : List ℕ) → IsSuffix text (after_comma text)
 unfolding after_comma
 after_comma-end text =
     let rest = skip_blank text in
     let near = skip_from-end true false text in
-    if_either (IsValidEnd text) (first rest == comma) (skip_blank (drop 1 rest)) rest
+    if_either (IsSuffix text) (first rest == comma) (skip_blank (drop 1 rest)) rest
     (end_of_end text (drop 1 rest) (skip_blank (drop 1 rest)) (end_of_end text rest (drop 1 rest) near (end_drop 1 rest))
     (skip_from-end true false (drop 1 rest)))
     near
 
-pub after_equals-end : (text : List ℕ) → IsValidEnd text (after_equals text)
+pub after_equals-end : (text : List ℕ) → IsSuffix text (after_equals text)
 unfolding after_equals
 after_equals-end text =
-    if_either (IsValidEnd text) (first text == equals) (skip_ws (drop 1 text)) []
+    if_either (IsSuffix text) (first text == equals) (skip_ws (drop 1 text)) []
     (end_of_end text (drop 1 text) (skip_ws (drop 1 text)) (end_drop 1 text) (skip_ws-end (drop 1 text))) (end_nil text)
 
-pub skip_bom-end : (text : List ℕ) → IsValidEnd text (skip_bom text)
+pub skip_bom-end : (text : List ℕ) → IsSuffix text (skip_bom text)
 unfolding skip_bom
 skip_bom-end text =
-    if_either (IsValidEnd text) ((first text == 0xEF && slice_index text 1 == 0xBB) && slice_index text 2 == 0xBF) (drop 3 text) text
+    if_either (IsSuffix text) ((first text == 0xEF && slice_index text 1 == 0xBB) && slice_index text 2 == 0xBF) (drop 3 text) text
     (end_drop 3 text) (end_whole text)

@@ -116,7 +116,8 @@ fn repeated_key_in_inline_table<'a>(
     }
 }
 
-// Returns the key of an entry, with the first entry of its table whose key begins with all parts of the entry's key.
+// Returns the key of an entry, and the first earlier entry of the same table that sets this key or a key below it, as `a.b` is below `a`;
+// `first` is `None` if there is no such entry.
 fn repeated_key_of_entry<'a>(
     alloc: Global,
     entries: Entries<'a>,

@@ -38,7 +38,7 @@ pub fn read_faults(alloc: Global, bytes: &[u8]) -> Result<Vec<JobError>, AllocEr
     }
 }
 
-/// Returns a list with only this error, which is an error of the whole list.
+/// Returns a `Vec` with only this error, which is about the whole job list.
 fn single_list_fault(alloc: Global, kind: What) -> Result<Vec<JobError>, AllocError>
     ensures { IfOk result (λ faults. faults.items ≡ record { job = 0; what = kind } ∷ []) }
 {

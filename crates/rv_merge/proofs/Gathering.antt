@@ -205,9 +205,9 @@ module _ (texts : List (List ℕ)) (at : ℕ) (shard : Shard) (sources : List (O
           source.within,
           record {
             shard = shard_in (run_of_shard shard) part.number;
-            is = subst (λ (j : ℕ). IsReportWithExtent (extent.Shard (shard_in (run_of_shard shard) j)) (nth_text texts earlier)) number
-                source.of;
-            of = of;
+            first_is_report = subst (λ (j : ℕ). IsReportWithExtent (extent.Shard (shard_in (run_of_shard shard) j)) (nth_text texts earlier))
+                number source.of;
+            second_is_report = of;
             differ = differ;
           },
         )
@@ -226,11 +226,11 @@ pub has_other_run : (texts : List (List ℕ)) (at : ℕ) (first part : Shard) (w
     → IsReportWithExtent (extent.Shard first) (nth_text texts 0) → IsReportWithExtent (extent.Shard part) (nth_text texts at)
     → IsRunFlaw why first part → HasFlaw texts at why
 has_other_run texts at first part flaw.DifferentShardCount a b h =
-    record { shard = first; other = part; is = a; of = b; differ = h }
+    record { shard = first; other = part; first_is_report = a; second_is_report = b; differ = h }
 has_other_run texts at first part flaw.DifferentJobCount a b h =
-    record { shard = first; other = part; is = a; of = b; differ = h }
+    record { shard = first; other = part; first_is_report = a; second_is_report = b; differ = h }
 has_other_run texts at first part flaw.DifferentStamp a b h =
-    record { shard = first; other = part; is = a; of = b; differ = h }
+    record { shard = first; other = part; first_is_report = a; second_is_report = b; differ = h }
 has_other_run texts at first part (flaw.Line line) a b h = absurd h
 has_other_run texts at first part flaw.Truncated a b h = absurd h
 has_other_run texts at first part flaw.Whole a b h = absurd h

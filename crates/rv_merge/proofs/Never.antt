@@ -60,8 +60,8 @@ same_part run rows n m bytes others x y is =
 two_never : (run : Run) (rows : List Row) (n m : ℕ) (bytes others : List ℕ) → IsPartOfRows rows run n bytes
     → IsPartOfRows rows run m others → AreDifferentReports bytes others → ⊥
 two_never run rows n m bytes others x y two =
-    let a = one_shard_of two.shard (shard_in run n) bytes two.is x.of in
-    let b = one_shard_of two.shard (shard_in run m) others two.of y.of in
+    let a = one_shard_of two.shard (shard_in run n) bytes two.first_is_report x.of in
+    let b = one_shard_of two.shard (shard_in run m) others two.second_is_report y.of in
     two.differ (same_part run rows n m bytes others x y (ap (λ (s : Shard). s.number) (sym a ∙ b)))
 
 -- ---- other runs
@@ -70,8 +70,8 @@ differ_never : {X : Type 0} (what : Shard → X) (run : Run) (rows : List Row) (
     → ((k j : ℕ) → what (shard_in run k) ≡ what (shard_in run j)) → IsPartOfRows rows run n bytes → IsPartOfRows rows run m others
     → HaveDifferentValues what bytes others → ⊥
 differ_never what run rows n m bytes others alike x y d =
-    let a = one_shard_of d.shard (shard_in run n) bytes d.is x.of in
-    let b = one_shard_of d.other (shard_in run m) others d.of y.of in
+    let a = one_shard_of d.shard (shard_in run n) bytes d.first_is_report x.of in
+    let b = one_shard_of d.other (shard_in run m) others d.second_is_report y.of in
     d.differ (ap what a ∙ alike n m ∙ sym (ap what b))
 
 -- ---- names

@@ -33,15 +33,15 @@ pub record IsInvalidReport (error : ReadError) (bytes : List ℕ) : Type 0 where
 pub record HaveDifferentValues {X : Type 0} (value : Shard → X) (bytes other_bytes : List ℕ) : Type 0 where
   pub shard : Shard
   pub other : Shard
-  pub is : IsReportWithExtent (extent.Shard shard) bytes
-  pub of : IsReportWithExtent (extent.Shard other) other_bytes
+  pub first_is_report : IsReportWithExtent (extent.Shard shard) bytes
+  pub second_is_report : IsReportWithExtent (extent.Shard other) other_bytes
   pub differ : value shard ≡ value other → ⊥
 
 -- the two texts are different reports of the same shard
 pub record AreDifferentReports (bytes other_bytes : List ℕ) : Type 0 where
   pub shard : Shard
-  pub is : IsReportWithExtent (extent.Shard shard) bytes
-  pub of : IsReportWithExtent (extent.Shard shard) other_bytes
+  pub first_is_report : IsReportWithExtent (extent.Shard shard) bytes
+  pub second_is_report : IsReportWithExtent (extent.Shard shard) other_bytes
   pub differ : bytes ≡ other_bytes → ⊥
 
 -- the row at the index `index` has the name of an earlier row

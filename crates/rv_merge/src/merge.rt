@@ -78,8 +78,8 @@ fn first_missing_shard(sources: &[Option<usize>]) -> Option<usize>
     None
 }
 
-// Returns the error that the row at an index has the name of an earlier row, in the text of the row's shard; or, if that shard has no text,
-// the error that it is missing.
+// Returns the error that the row at an index has the name of an earlier row. The error names the text of the row's shard; if this shard has
+// no text, the error says that it is missing.
 fn repeated_name_error(sources: &[Option<usize>], index: usize) -> MergeError
     requires not_empty { 0 < length sources.now }
     requires index { index < usize.MAX }

@@ -57,7 +57,7 @@ max_number = 2 ^ 32 - 1
 abbrev pub with_digit : ℕ → ℕ → ℕ → ℕ
 with_digit base value digit = min (min (value * base) max_number + digit) max_number
 
--- the number whose first decimal digits are the digits of `value`, and whose further digits are this text; at most `max_number`
+-- the number whose first decimal digits are the digits of `value`, and whose further digits are this text; capped at `max_number`
 unfoldable pub decimal_number_from : ℕ → List ℕ → ℕ
 decimal_number_from value [] = value
 decimal_number_from value (b ∷ bs) = decimal_number_from (with_digit 10 value (b - 48)) bs
@@ -70,12 +70,12 @@ decimal_number text = decimal_number_from 0 text
 abbrev pub hex_digit_value : ℕ → ℕ
 hex_digit_value b = if nat_lt b 97 then b - 48 else b - 87
 
--- the number whose first hexadecimal digits are the digits of `value`, and whose further digits are this text; at most `max_number`
+-- the number whose first hexadecimal digits are the digits of `value`, and whose further digits are this text; capped at `max_number`
 unfoldable pub hex_number : ℕ → List ℕ → ℕ
 hex_number value [] = value
 hex_number value (b ∷ bs) = hex_number (with_digit 16 value (hex_digit_value b)) bs
 
--- the number `value` with this many hexadecimal zeros appended; at most `max_number`
+-- the number `value` with this many hexadecimal zeros appended; capped at `max_number`
 unfoldable pub with_zero_digits : ℕ → ℕ → ℕ
 with_zero_digits zero value = value
 with_zero_digits (suc count) value = with_zero_digits count (with_digit 16 value 0)
@@ -281,7 +281,7 @@ after_signature_line line state =
     }
     else with_stage_done state
 
--- the state after the line that should have a word of the signature, or the verdict if all words have been read
+-- the state after a line that should be a word of the signature or, once all words have been read, the verdict
 unfoldable pub after_word_or_verdict_line : List ℕ → ReaderStateView → ReaderStateView
 after_word_or_verdict_line line state =
     if is_hex_word line && nat_lt (length state.words) state.count then

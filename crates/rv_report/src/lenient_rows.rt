@@ -193,7 +193,7 @@ fn read_signature_line(state: &mut ReaderState, line: &[u8])
     }
 }
 
-// Reads a line that should have a word of the signature, or the verdict if all words have been read. Any other line ends the reading.
+// Reads a line that should be a word of the signature or, once all words have been read, the verdict. Any other line ends the reading.
 #[tactic(auto, unfolding(crate::specs::LenientReport::after_word_or_verdict_line))]
 fn read_word_or_verdict_line(
     alloc: Global,

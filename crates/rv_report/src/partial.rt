@@ -63,7 +63,7 @@ fn read_complete_rows(alloc: Global, bytes: &[u8]) -> Result<SavedReport, AllocE
     Ok(first_rows(lenient, count))
 }
 
-// Returns the number of rows of a report that are complete in the bytes.
+// Returns how many rows of the report, from the first on, the bytes have completely.
 fn complete_row_count(
     alloc: Global,
     report: &SavedReport,
@@ -89,8 +89,8 @@ fn complete_row_count(
     Ok(rows.len())
 }
 
-// Returns the report of chosen jobs with the first `count` rows of a report. Its list is taken to have the maximum number of jobs, since a
-// truncated report may not say how many.
+// Returns the report of chosen jobs with the first `count` rows of a report. It says that its list has the maximum number of jobs, since a
+// truncated report may not say how many there are.
 fn first_rows(report: SavedReport, count: usize) -> SavedReport
     ensures { result ≡ first_rows count report }
 {

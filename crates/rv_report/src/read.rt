@@ -41,8 +41,8 @@ impl From<AllocError> for ReadError {
     }
 }
 
-/// Returns the report with this text, whether of a whole list, of chosen jobs or of a shard; or the first invalid line, or that the text is
-/// truncated.
+/// Returns the report with this text, whether of a whole list, of chosen jobs or of a shard. The error is the first invalid line, or
+/// `Truncated`.
 ///
 /// Takes memory for the report's rows, and again for its text; if the text is not a report, for at most 4,096 rows and one more signature
 /// of 65,536 words.

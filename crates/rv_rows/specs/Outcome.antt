@@ -145,23 +145,23 @@ abbrev pub outcome_if_readable : Job → Result (List ℕ) Refusal → Outcome
 outcome_if_readable job (Ok file) = file_outcome_of job file
 outcome_if_readable job (Err why) = refused_outcome why
 
--- the outcome of a job, given the results of reading its image, its expected signature, and the file with its expected console text
+-- the outcome of a job, given the results of reading three files: the image, the expected signature, and the expected console text
 unfoldable pub outcome_of : Job → Kept → Option Kept → Option Kept → Outcome
 outcome_of job image reference console = outcome_if_readable job (image_file_or_refusal image reference console)
 
 -- ---- the state in which a run begins
 
--- the state in which the run of a job begins, given its image and signature range, or the refusal
+-- the state in which the run of a job begins, or the refusal, given the image and signature range, or their error
 abbrev pub start_if_loadable : Job → List ℕ → Result LoadableImage ImageError → Result State Refusal
 start_if_loadable job file (Ok loadable) = Ok (loaded_state job file loadable.image)
 start_if_loadable job file (Err why) = Err (refusal.Image why)
 
--- the state in which the run of a job begins, given the bytes of its image, or the refusal
+-- the state in which the run of a job begins, or the refusal, given the bytes of its image
 abbrev pub start_if_readable : Job → Result (List ℕ) Refusal → Result State Refusal
 start_if_readable job (Ok file) = start_if_loadable job file (loadable_image job file)
 start_if_readable job (Err why) = Err why
 
--- the state in which the run of a job begins, given the results of reading its image, its expected signature, and the file with its
--- expected console text, or the refusal
+-- the state in which the run of a job begins, or the refusal, given the results of reading three files: the image, the expected signature,
+-- and the expected console text
 unfoldable pub start_of : Job → Kept → Option Kept → Option Kept → Result State Refusal
 start_of job image reference console = start_if_readable job (image_file_or_refusal image reference console)

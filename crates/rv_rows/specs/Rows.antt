@@ -25,7 +25,7 @@ outcome_in results job =
     outcome_of job (result_or_unreadable results job.image) (option_map (result_or_unreadable results) job.expect_signature)
     (option_map (result_or_unreadable results) (console_path job.expect_console))
 
--- the state in which the run of a job begins, given the results for the paths of a plan, or the refusal
+-- the state in which the run of a job begins, or the refusal, given the results for the paths of a plan
 abbrev pub start_state_in : List PathResult → Job → Result State Refusal
 start_state_in results job =
     start_of job (result_or_unreadable results job.image) (option_map (result_or_unreadable results) job.expect_signature)

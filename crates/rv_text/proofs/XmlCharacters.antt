@@ -21,17 +21,18 @@ use Rattle.rv_text.specs.Xml.{character_reference, space_reference}
 use Rattle.rv_text.proofs.XmlTexts.{text_escaped}
 
 pub xml_nil : IsXmlCharacters []
-xml_nil = record { characters = []; taken = refl; written = refl }
+xml_nil = record { characters = []; are_xml_characters = refl; written = refl }
 
 pub xml_append : (xs ys : List ℕ) → IsXmlCharacters xs → IsXmlCharacters ys → IsXmlCharacters (xs ++ ys)
 xml_append xs ys front back = record {
   characters = front.characters ++ back.characters;
-  taken = list_all-append is_xml_character front.characters back.characters ∙ rw (front.taken, back.taken) refl;
+  are_xml_characters = list_all-append is_xml_character front.characters back.characters
+      ∙ rw (front.are_xml_characters, back.are_xml_characters) refl;
   written = rw (front.written, back.written) (sym (encodes-append front.characters back.characters));
 }
 
 xml_one : (c : ℕ) → is_xml_character c ≡ true → IsXmlCharacters (encode_utf8 c)
-xml_one c is = record { characters = c ∷ []; taken = rw is refl; written = sym (append-nil (encode_utf8 c)) }
+xml_one c is = record { characters = c ∷ []; are_xml_characters = rw is refl; written = sym (append-nil (encode_utf8 c)) }
 
 -- ASCII that XML has
 abbrev pub is_plain : ℕ → Bool
@@ -54,7 +55,7 @@ plain_ascii (c ∷ text) all = λ i. elim i as (λ k. get_or (c ∷ text) k 0 < 
 pub xml_plain : (text : List ℕ) → list_all is_plain text ≡ true → IsXmlCharacters text
 xml_plain text all = record {
   characters = text;
-  taken = plain_taken text all;
+  are_xml_characters = plain_taken text all;
   written = sym (encodes-IsAscii text (plain_ascii text all));
 }
 
@@ -117,4 +118,4 @@ xml_texts within (c ∷ characters) all =
 pub xml_escaped : (within : XmlContext) (bytes : List ℕ) → IsBytes bytes → IsXmlCharacters (xml_text within bytes)
 xml_escaped within bytes are =
     let text = text_escaped within 0 bytes are in
-    rw text.written (xml_texts within text.characters text.taken)
+    rw text.written (xml_texts within text.characters text.are_xml_characters)

@@ -54,14 +54,14 @@ bytes_after_first-of c = let bounds = len_utf8_bounds c in omega (arith, bounds.
 -- ---- what stands in a document
 
 text_nil : (within : XmlContext) → IsXmlText within []
-text_nil within = record { characters = []; taken = refl; written = refl }
+text_nil within = record { characters = []; are_xml_characters = refl; written = refl }
 
 text_append : (within : XmlContext) (xs ys : List ℕ) → IsXmlText within xs → IsXmlText within ys →
     IsXmlText within (xs ++ ys)
 text_append within xs ys front back = record {
   characters = front.characters ++ back.characters;
-  taken = list_all-append is_xml_character front.characters back.characters
-      ∙ rw (front.taken, back.taken) refl;
+  are_xml_characters = list_all-append is_xml_character front.characters back.characters
+      ∙ rw (front.are_xml_characters, back.are_xml_characters) refl;
   written = rw (front.written, back.written)
       (sym (flat_map-append (character_text within) front.characters back.characters));
 }
@@ -93,7 +93,7 @@ text_one : (within : XmlContext) (c : ℕ) → IsCurrentVerdict within c → IsX
 unfolding IsCurrentVerdict
 text_one within c is = record {
   characters = c ∷ [];
-  taken = rw is.0 refl;
+  are_xml_characters = rw is.0 refl;
   written = sym (append-nil (character_text within c) ∙ is.1);
 }
 
@@ -124,7 +124,7 @@ text_taken : (within : XmlContext) (byte c : ℕ) (taken : Bool) → is_xml_char
     IsXmlText within (character_or_escape within byte (cond taken (Some c) None))
 text_taken within byte c true is below = record {
   characters = c ∷ [];
-  taken = rw is refl;
+  are_xml_characters = rw is refl;
   written = sym (append-nil (character_text within c));
 }
 text_taken within byte c false is below = text_escape within byte below

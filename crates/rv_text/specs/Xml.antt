@@ -100,11 +100,11 @@ after_first_xml_text bytes = drop (bytes_after_first (first_xml_character bytes)
 -- the text consists of XML characters, each in UTF-8 or, if it has a reference, as that reference
 pub record IsXmlText (context : XmlContext) (text : List ℕ) : Type 0 where
   pub characters : List ℕ
-  pub taken : list_all is_xml_character characters ≡ true
+  pub are_xml_characters : list_all is_xml_character characters ≡ true
   pub written : text ≡ flat_map (character_text context) characters
 
 -- the text is the UTF-8 encoding of XML characters
 pub record IsXmlCharacters (text : List ℕ) : Type 0 where
   pub characters : List ℕ
-  pub taken : list_all is_xml_character characters ≡ true
+  pub are_xml_characters : list_all is_xml_character characters ≡ true
   pub written : text ≡ encode_utf8_all characters

@@ -6,8 +6,8 @@ ghost use Rattle.rv_text.specs.declared.xml.XmlContext.{XmlContext};
 ghost use Rattle.rv_text.specs.Printable.{IsUtf8WithoutControls, printable_name, printable_text, printable_value};
 ghost use Rattle.rv_text.specs.Xml.{IsXmlText, xml_text};
 
-/// Proves that `xml_text` consists of characters of XML 1.0 whatever the bytes are, and that none of them is markup: a character that has a
-/// reference is written as the reference, and any other in UTF-8.
+/// Proves that `xml_text` of any bytes has only characters of XML 1.0 and no markup: a character that needs escaping is written as its
+/// entity or character reference, and every other character is written in UTF-8.
 pub fn escaped_bytes_are_xml()
     ensures { (within : XmlContext) (bytes : List ℕ) → IsBytes bytes
         → IsXmlText within (xml_text within bytes) }

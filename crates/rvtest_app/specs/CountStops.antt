@@ -43,7 +43,7 @@ abbrev pub two_names_message : List ℕ → ℕ → List ℕ
 two_names_message path function = codes "rvtest: " ++ printable_text path ++ codes ": the function at " ++ word_digits function
     ++ codes " has two names in one image\n"
 
--- why a command stopped: adding the table at the path to the sum of the earlier tables ended with this error
+-- the stop reports this error: memory ran out, or why the table at the path cannot be added to the sum of the earlier tables
 abbrev pub IsSumErrorStop : List ℕ → SumError → Stop → Type 0
 IsSumErrorStop path sum_error.OutOfMemory stop = stop ≡ stops.OutOfMemory
 IsSumErrorStop path (sum_error.Count address) stop = IsStop 2 (count_overflow_message path (codes ": the count at ") address) stop

@@ -32,7 +32,7 @@ use Rattle.rvtest_app.specs.declared.view.View.TheVariants as view
 
 -- ---- a table that cannot be used
 
--- the message that the table at `table_path` has counts of an image at `path` that differs from the one the selected jobs use
+-- the message that the table at `table_path` counted another image at `path` than the one that the selected jobs use
 abbrev pub other_image_message : List ℕ → List ℕ → List ℕ
 other_image_message table_path path = codes "rvtest: " ++ printable_text table_path ++ codes ": " ++ printable_text path
     ++ codes ": counted with a different image than the selected jobs use\n"

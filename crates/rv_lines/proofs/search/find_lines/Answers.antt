@@ -6,7 +6,7 @@ use Rattle.rv_lines.proofs.UnitLists.{FoundSoFar, found_start, found_on, found_c
 use Rattle.rv_lines.proofs.search.find_lines.Goals as goal
 
 pub loop-offset-init : goal.loop-offset-init
-loop-offset-init c = found_start (view_strings c.args.tables.now.strings) c.args.tables.now.lines.now c.args.addresses.now c.forget_all.new.found
+loop-offset-init c = found_start (view_strings c.args.tables.now.strings) c.args.tables.now.lines.now c.args.addresses.now c.clear_all.new.found
 
 pub loop-offset-preserved : goal.loop-offset-preserved
 loop-offset-preserved c =
@@ -14,9 +14,9 @@ loop-offset-preserved c =
     let section = c.args.tables.now.lines.now in
     let here : c.unit_size-offset.result ≡ min (unit_size (drop c.loop-offset.offset section)) (length (drop c.loop-offset.offset section)) =
     c.unit_size-offset.ensures ∙ ap (λ xs. min (unit_size xs) (length xs)) c.bytes_from.ensures in
-    subst (λ (r : RejectedUnits). FoundSoFar strings section c.args.addresses.now c.forget_all.new.found (c.loop-offset.offset + c.unit_size-offset.result) c.note_unit-read.new.found r)
+    subst (λ (r : RejectedUnits). FoundSoFar strings section c.args.addresses.now c.clear_all.new.found (c.loop-offset.offset + c.unit_size-offset.result) c.note_unit-read.new.found r)
     (sym c.after-rejected.ensures)
-    (found_on strings section c.args.addresses.now c.forget_all.new.found c.loop-offset.offset c.loop-offset.found c.loop-offset.rejected c.loop-offset.invariant
+    (found_on strings section c.args.addresses.now c.clear_all.new.found c.loop-offset.offset c.loop-offset.found c.loop-offset.rejected c.loop-offset.invariant
     c.unit_size-offset.result c.note_unit-read.result c.note_unit-read.new.found c.loop-offset-test.true here c.note_unit-read.ensures.value c.note_unit-read.ensures.found)
 
 pub loop-offset-smaller : goal.loop-offset-smaller
@@ -34,10 +34,10 @@ pub returns-clause-lines : goal.returns-clause-lines
 returns-clause-lines c =
     let strings = view_strings c.args.tables.now.strings in
     let section = c.args.tables.now.lines.now in
-    c.show_lines.ensures ∙ lines_found strings section c.args.addresses.now c.args.found.now c.forget_all.new.found c.loop-offset.found c.requires.places c.forget_all.ensures
-    (found_all strings section c.args.addresses.now c.forget_all.new.found c.loop-offset.offset c.loop-offset.found c.loop-offset.rejected c.loop-offset.invariant c.loop-offset-test.false)
+    c.drop_results_on_line_0.ensures ∙ lines_found strings section c.args.addresses.now c.args.found.now c.clear_all.new.found c.loop-offset.found c.requires.same_length c.clear_all.ensures
+    (found_all strings section c.args.addresses.now c.clear_all.new.found c.loop-offset.offset c.loop-offset.found c.loop-offset.rejected c.loop-offset.invariant c.loop-offset-test.false)
 
 pub returns-clause-rejected : goal.returns-clause-rejected
 returns-clause-rejected c =
-    found_counts (view_strings c.args.tables.now.strings) c.args.tables.now.lines.now c.args.addresses.now c.forget_all.new.found c.loop-offset.offset c.loop-offset.found
+    found_counts (view_strings c.args.tables.now.strings) c.args.tables.now.lines.now c.args.addresses.now c.clear_all.new.found c.loop-offset.offset c.loop-offset.found
     c.loop-offset.rejected c.loop-offset.invariant c.loop-offset-test.false

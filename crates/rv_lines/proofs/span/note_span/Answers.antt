@@ -16,9 +16,11 @@ loop-k-init c =
     }
 
 pub returns-else-addresses-k : goal.returns-else-addresses-k
-returns-else-addresses-k c = noted_done c.args.span.now c.args.addresses.now c.args.found.now _ c.loop-k.k c.requires.places c.requires.rising
+returns-else-addresses-k c = noted_done c.args.span.now c.args.addresses.now c.args.found.now _ c.loop-k.k
+    c.requires.same_length c.requires.rising
     (λ lt. c.if-addresses-k.false) c.loop-k.invariant.noted
 
 pub returns-after-loop-k : goal.returns-after-loop-k
-returns-after-loop-k c = noted_done c.args.span.now c.args.addresses.now c.args.found.now _ c.loop-k.k c.requires.places c.requires.rising
+returns-after-loop-k c = noted_done c.args.span.now c.args.addresses.now c.args.found.now _ c.loop-k.k
+    c.requires.same_length c.requires.rising
     (λ lt. absurd (omega arith)) c.loop-k.invariant.noted

@@ -3,7 +3,7 @@ use Rattle.std.proofs.lemmas.List.{get_or_default}
 use Rattle.std.proofs.lemmas.List.Edits.{map_over_more}
 use Rattle.rv_lines.specs.declared.span.SourceLine.{SourceLine}
 use Rattle.rv_lines.specs.SearchInside.{drop_line_0}
-use Rattle.rv_lines.proofs.search.show_lines.Goals as goal
+use Rattle.rv_lines.proofs.search.drop_results_on_line_0.Goals as goal
 
 pub loop-k-preserved : goal.loop-k-preserved
 loop-k-preserved c =
