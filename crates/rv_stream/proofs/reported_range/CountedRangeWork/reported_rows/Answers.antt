@@ -69,3 +69,19 @@ returns g c =
           ∙ rows_in_range line batch c.args.range c.args.rows.items c.requires.within c.requires.rows;
       each = c.loop-row.invariant.reported.each;
     }
+
+pub bounds-self-number : goal.bounds-self-number
+bounds-self-number g c =
+    let line = g.T.RowReporter.line c.args.self.now.reporter.now in
+    let batch = c.args.self.now.batch.now in
+    let before = c.loop-row.yielded in
+    let row = c.in-Some.row in
+    let rest = into_iter_items c.next.new.self in
+    let number = c.loop-row.invariant.number in
+    let steps : into_iter_items c.loop-row.row-iterator ≡ row ∷ rest = c.in-Some.ensures.steps.0 in
+    let whole : before ++ row ∷ rest ≡ c.args.rows.items =
+    ap (λ (l : List Row). before ++ l) (sym steps) ∙ c.loop-row.invariant.front ∙ c.into_iter-row-iterator.ensures.into_iter_gives.0 in
+    let long = ap length (sym whole) ∙ length-append before (row ∷ rest) in
+    let count = rows_in_range line batch c.args.range c.args.rows.items c.requires.within c.requires.rows in
+    let within = c.requires.within in
+    omega (arith, number, long, count, within)
