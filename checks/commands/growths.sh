@@ -38,7 +38,7 @@ runs=(
 # What each program says where memory, or a thread, is wanting.
 declare -A wanting=(
     [rvfleet]='out of memory,no worker'
-    [rvtest]='out of memory,no thread could be started'
+    [rvtest]='out of memory,a thread could not be started'
 )
 
 crates=$PWD/crates

@@ -40,7 +40,7 @@ truncation_note path partial_report = if partial_report.is_truncated
 abbrev pub stop_message : Stop → List ℕ
 stop_message (stops.Message kind text) = text.items
 stop_message stops.OutOfMemory = codes "rvtest: out of memory\n"
-stop_message stops.NoWorker = codes "rvtest: no thread could be started\n"
+stop_message stops.NoWorker = codes "rvtest: a thread could not be started\n"
 stop_message stops.WriteFailed = codes "rvtest: standard output: write failed\n"
 
 -- the message that reports this stop; empty for a failed write if the Bool says that the reader of standard output has closed it

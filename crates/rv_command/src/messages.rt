@@ -105,7 +105,7 @@ pub fn write_stop_message<E: Sink>(errors: &mut E, stop: Stop) -> u8
             message_status(kind)
         }
         Stop::OutOfMemory => write_failure_message(errors, "rvtest: out of memory\n"),
-        Stop::NoWorker => write_failure_message(errors, "rvtest: no thread could be started\n"),
+        Stop::NoWorker => write_failure_message(errors, "rvtest: a thread could not be started\n"),
         Stop::WriteFailed => write_failure_message(
             errors,
             "rvtest: standard output: write failed\n",

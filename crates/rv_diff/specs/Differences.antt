@@ -77,7 +77,7 @@ abbrev pub percent_text : CompareMode → ℕ → ℕ → List ℕ
 percent_text Outcomes old new = []
 percent_text Steps old new = []
 percent_text (Slower percent) old new =
-    if old == 0 then [] else codes " (+" ++ decimal ((new - old) * 100 / old) ++ codes " %)"
+    if old == 0 then [] else codes " (+" ++ decimal ((new - old) * 100 / old) ++ codes "%)"
 
 -- the text for steps that changed from `old` to `new`
 abbrev pub steps_change_text : CompareMode → ℕ → ℕ → List ℕ

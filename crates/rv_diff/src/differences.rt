@@ -136,7 +136,7 @@ fn push_percent(text: &mut Vec<u8>, mode: CompareMode, old: u32, new: u32) -> Re
             let more = u64::from(new.saturating_sub(old)) * 100 / u64::from(old);
             push_spans(
                 text,
-                &[Span::Text(" (+"), Span::Number(more), Span::Text(" %)")],
+                &[Span::Text(" (+"), Span::Number(more), Span::Text("%)")],
             )
         }
         _ => Ok(()),

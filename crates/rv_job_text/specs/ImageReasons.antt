@@ -102,7 +102,7 @@ unfoldable pub signature_range_text : List Region → List ℕ → Option Symbol
 signature_range_text regions file None = codes "the signature is not a sequence of words in one region"
 signature_range_text regions file (Some names) =
     codes "the signature from " ++ signature_ends_text file names
-    ++ codes " is not a sequence of up to 65536 words in one region:" ++ regions_text regions
+    ++ codes " is invalid: expected multiples of 4 in ascending order, at most 65536 words apart, in one region:" ++ regions_text regions
 
 -- ---- the reason
 

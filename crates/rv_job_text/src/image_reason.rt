@@ -177,7 +177,7 @@ fn push_signature_ends(
     requires ends { 0 < length names.now.end }
     ensures { OnOk result (bytes.new.items ≡ bytes.old.items
         ++ (codes "the signature from " ++ signature_ends_text file.now names.now
-        ++ codes " is not a sequence of up to 65536 words in one region:")) }
+        ++ codes " is invalid: expected multiples of 4 in ascending order, at most 65536 words apart, in one region:")) }
 {
     let begin = names.begin.as_str().as_bytes();
     let end = names.end.as_str().as_bytes();
@@ -194,7 +194,7 @@ fn push_signature_ends(
             Span::Printable(end),
             end_at,
             end_address,
-            Span::Text(" is not a sequence of up to 65536 words in one region:"),
+            Span::Text(" is invalid: expected multiples of 4 in ascending order, at most 65536 words apart, in one region:"),
         ],
     )
 }

@@ -50,7 +50,7 @@ IsNoTableStop contents path images stop = IsResultUnreadStop contents path stop
 
 -- the message that the table at the path has no call stacks, with the command that writes such a table
 abbrev pub no_stacks_message : List ℕ → List ℕ
-no_stacks_message table_path = path_message table_path (codes "the table has no stacks: write one with rvtest run LIST --counts FILE --stacks")
+no_stacks_message table_path = path_message table_path (codes "the table has no stacks: to count them, use rvtest run LIST --counts FILE --stacks")
 
 -- why a command stopped: the table at the path has no call stacks, which the view needs, or memory ran out
 abbrev pub IsNoStacksStop : Option FileContents → View → List ℕ → Stop → Type 0
@@ -91,7 +91,7 @@ counts_source args = unwrap_or (optional_text args.counts) args.list.now
 -- the message for an image whose sum over the call stacks does not fit in 64 bits
 abbrev pub past_64_bits_message : List ℕ → List ℕ → List ℕ
 past_64_bits_message source path = codes "rvtest: " ++ printable_text source ++ codes ": " ++ printable_text path
-    ++ codes ": the sum of its stacks does not fit in 64 bits\n"
+    ++ codes ": the sum of its stack counts does not fit in 64 bits\n"
 
 -- why a command stopped: the call stacks of an image have 2^64 or more steps or calls, or memory ran out
 abbrev pub IsPast64BitsStop : CountTable → List ImageFileView → List ℕ → Stop → Type 0

@@ -47,7 +47,7 @@ fn past_64_bits_message<'a>(
             Span::Printable(source.as_bytes()),
             Span::Text(": "),
             Span::Printable(path.as_bytes()),
-            Span::Text(": the sum of its stacks does not fit in 64 bits\n"),
+            Span::Text(": the sum of its stack counts does not fit in 64 bits\n"),
         ],
     )
 }

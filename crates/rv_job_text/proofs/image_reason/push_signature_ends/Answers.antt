@@ -21,4 +21,4 @@ returns c =
     )
     (told _ _ _ _ _ (ends_told (codes "the signature from ") (printable_text c.as_bytes-begin.result.now) (span_text begin.0)
     (span_text begin.1) (codes " to ") (printable_text c.as_bytes-end.result.now) (span_text end.0) (span_text end.1)
-    (codes " is not a sequence of up to 65536 words in one region:")) c.push_spans.ensures)
+    (codes " is invalid: expected multiples of 4 in ascending order, at most 65536 words apart, in one region:")) c.push_spans.ensures)
