@@ -75,7 +75,7 @@ returns-in_ok-write_counts-in-Ok-clause-written g c = λ before shown.
             errors_unchanged = (ap g.E.Sink.accepted files.errors_unchanged, ap g.E.Sink.failure_count files.errors_unchanged);
             committed = rw (told, firsts) at (files.committed report_path junit_path report c.requires.received.junit);
           });
-      counts_written = rw firsts at (c.in_ok-write_counts-in-Ok.ensures.counts_written (optional_text args.counts) before.committed
+      counts_written = rw (told, firsts) at (c.in_ok-write_counts-in-Ok.ensures.counts_written (optional_text args.counts) before.committed
           (rw same at c.requires.received.counts));
     }
 
