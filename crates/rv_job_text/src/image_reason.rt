@@ -194,7 +194,9 @@ fn push_signature_ends(
             Span::Printable(end),
             end_at,
             end_address,
-            Span::Text(" is invalid: expected multiples of 4 in ascending order, at most 65536 words apart, in one region:"),
+            Span::Text(
+                " is invalid: expected multiples of 4 in ascending order, at most 65536 words apart, in one region:",
+            ),
         ],
     )
 }

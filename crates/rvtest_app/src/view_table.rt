@@ -173,6 +173,7 @@ fn other_image_message<'a>(
 fn no_stacks_message(alloc: Global, path: &str) -> Result<Vec<u8>, AllocError>
     ensures { IfOk result (λ text. text.items ≡ no_stacks_message path.now) }
 {
-    let reason = "the table has no stacks: to count them, use rvtest run LIST --counts FILE --stacks";
+    let reason =
+        "the table has no stacks: to count them, use rvtest run LIST --counts FILE --stacks";
     path_message(alloc, path, reason)
 }
