@@ -25,7 +25,7 @@ use Rattle.rvtest_app.specs.declared.whole_report.NameMismatch.{NameMismatch}
 abbrev pub expected_whole_report : List ℕ
 expected_whole_report = codes ": --into expects a report of the whole list\n"
 
--- the message for a report at the path that is partial, with `rows` rows of a list with `jobs` jobs
+-- the message that the report at the path is a partial one, with `rows` rows of a list with `jobs` jobs
 abbrev pub partial_report_message : List ℕ → ℕ → ℕ → List ℕ
 partial_report_message path rows jobs = codes "rvtest: " ++ printable_text path ++ codes ": a partial report (" ++ decimal rows
     ++ codes " of " ++ count_text jobs (codes "job") ++ codes ")" ++ expected_whole_report
@@ -66,7 +66,7 @@ pub record IsFirstNameMismatch (report_names listed_names : List (List ℕ)) (mi
   pub before : take index report_names ≡ take index listed_names
 
 -- why a report is not a report of all jobs of the list: it is partial, its number of rows differs from the number of jobs, or the name of a
--- row differs from that of its job
+-- row differs from the name of its job
 abbrev pub IsNotWholeBecause : List Job → SavedReport → NotWholeReason → Type 0
 IsNotWholeBecause jobs report (reason.Partial rows count) = (rows ≡ length report.rows)
     × (jobs_of_partial_report report.extent ≡ Some count)

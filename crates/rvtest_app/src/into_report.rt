@@ -40,7 +40,7 @@ impl<'a> IntoRows<'a> {
     }
 }
 
-// Replaces the rows of `all_rows` at these indices by `rows`: the first index by the first row, and so on.
+// Replaces the rows of `all_rows` at these indices: the row at the first index by the first of `rows`, and so on.
 fn replace_rows_at(all_rows: &mut Vec<Row>, indices: &[usize], rows: Vec<Row>)
     requires within { All (λ index. index < vec_len all_rows.old) indices.now }
     requires same_length { length indices.now ≡ vec_len rows }
@@ -53,7 +53,7 @@ fn replace_rows_at(all_rows: &mut Vec<Row>, indices: &[usize], rows: Vec<Row>)
     }
 }
 
-/// Returns the path of the report to write: the path of `--into`, or else the path of `--report`.
+/// Returns the path of the report to write: the path of `--into`, or else the path of `--report`; `None` without these options.
 pub(crate) fn run_report_path<'a>(args: &RunArgs<'a>) -> Option<&'a str>
     ensures { optional_text result ≡ run_report_path args.now }
 {

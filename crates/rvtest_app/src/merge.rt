@@ -86,7 +86,8 @@ fn reject_merge_overwrites<F: Outputs>(
     reject_option_overwrite(files, alloc, "--junit", args.junit, &inputs)
 }
 
-// Returns the path for the merged report: the requested one, or else standard output, unless the JUnit XML is requested instead.
+// Returns the path for the merged report: the requested one, or else standard output; `None` if the JUnit XML goes to standard output
+// instead.
 fn merged_report_path<'a>(args: &MergeArgs<'a>) -> Option<&'a str>
     ensures { optional_text result ≡ merged_report_path (optional_text args.now.report)
         (optional_text args.now.junit) }
@@ -98,7 +99,8 @@ fn merged_report_path<'a>(args: &MergeArgs<'a>) -> Option<&'a str>
     }
 }
 
-// Merges the reports of the shards with these texts, and returns the rows of the list, the line of totals, and the exit status.
+// Merges the reports of the shards with these texts, and returns the rows of the list, the line of totals, and the exit status. It is an
+// error if they are not the reports of all shards of one run.
 fn merge_part_texts(alloc: Global, args: &MergeArgs<'_>, texts: &[Vec<u8>]) -> Result<Merged, Stop>
     ensures parts { IfOk result
         (λ merged. AreParts merged.rows (map (λ text. text.items) texts.now)) }
@@ -117,7 +119,8 @@ fn merge_part_texts(alloc: Global, args: &MergeArgs<'_>, texts: &[Vec<u8>]) -> R
     Ok(Merged { rows, line, status })
 }
 
-// Merges the reports of the shards with these texts, and returns the rows in list order.
+// Merges the reports of the shards with these texts, and returns the rows in list order. It is an error if they are not the reports of all
+// shards of one run.
 fn rows_of_part_texts(alloc: Global, args: &MergeArgs<'_>, texts: &[Vec<u8>]) -> Result<Rows, Stop>
     ensures parts { IfOk result (λ rows. AreParts rows (map (λ text. text.items) texts.now)) }
     ensures at_most_max { IfOk result (λ rows. length rows ≤ max_jobs) }
@@ -238,7 +241,7 @@ fn merge_error_stop(alloc: Global, args: &MergeArgs<'_>, texts: &[&[u8]], error:
     }
 }
 
-// Returns the message that no report is of the shard with this number.
+// Returns the message that there is no report of the shard with this number.
 fn missing_shard_message(alloc: Global, number: usize) -> Result<Vec<u8>, AllocError>
     ensures { IfOk result (λ text. text.items
         ≡ codes "rvtest: no part for shard " ++ decimal number ++ codes "\n") }
@@ -337,7 +340,7 @@ fn part_flaw_message(
     }
 }
 
-// Returns the message that the report at `path` belongs to another run than the first report; `difference` says how they differ.
+// Returns the message that the report at `path` is from a different run than the first report; `difference` says how they differ.
 fn other_run_message(
     alloc: Global,
     args: &MergeArgs<'_>,
