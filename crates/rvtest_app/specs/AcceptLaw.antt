@@ -25,7 +25,7 @@ use Rattle.rvtest_app.specs.Runs.{IsPlanFor}
 
 -- ---- the file system
 
--- the contents of files `before` become the contents `after` when the files `written` are written
+-- writing the files `written` turns the contents of files from `before` into `after`
 pub record IsStoreAfter (written : List CommittedFile) (before after : FileContents) : Type 0 where
   -- the file to which a path leads; with links, several paths lead to one file
   pub leads : List ℕ → List ℕ
@@ -61,14 +61,14 @@ abbrev pub is_read : Kept → Bool
 is_read (kept.Content bytes) = true
 is_read _ = false
 
--- the image of the job and each of its expectation files was read, which `results` says
+-- according to `results`, the image of the job and each of its expectation files could be read
 pub record AreFilesRead (results : List PathResult) (job : Job) : Type 0 where
   pub image : IsTrue (is_read (result_or_unreadable results job.image))
   pub signature : IfSome job.expect_signature (λ path. IsTrue (is_read (result_or_unreadable results path)))
   pub console : IfSome (console_path job.expect_console) (λ path. IsTrue (is_read (result_or_unreadable results path)))
 
--- `row` is the row of the job at index `index` of the list at the path in `args`, when it runs with the files of `store` and all its files
--- could be read
+-- `row` is the row of the job at index `index` of the list at the path in `args`, if the job runs with the files of `store`; all files of
+-- the job could be read
 pub record IsRowOfRun (store : FileContents) (args : RunArgs) (index : ℕ) (row : Row) : Type 0 where
   pub bytes : List ℕ
   pub read : IsTextAt (Some store) args.list.now bytes

@@ -41,7 +41,7 @@ IsFileNotWrittenStop contents path stop = IsFileNotCreatedStop path stop ⊎ IsU
 
 -- ---- the golden files
 
--- `condition` relates the stop to one of these paths: the path of the list, or the resolved path of a golden file
+-- `condition` holds for the stop and one of these paths: the path of the list, or the resolved path of a golden file
 abbrev pub IsStopForSomeFile : (List ℕ → Stop → Type 0) → List ℕ → List GoldenFile → Stop → Type 0
 IsStopForSomeFile condition list_path files stop = condition list_path stop ⊎ Any (λ file. condition file.resolved_path stop) files
 

@@ -69,7 +69,7 @@ pub record HaveSelectedRun (contents : Option FileContents) (root : Option (List
 
 -- ---- the files
 
--- `old` is what the file at the path contains, or `None` if it does not exist; any `old` will do if the contents of files are not known
+-- `old` is what the file at the path contains, or `None` if it does not exist; true for any `old` if the contents of files are not known
 abbrev pub IsOldContentsAt : Option FileContents → List ℕ → Option (List ℕ) → Type 0
 IsOldContentsAt contents path old = IfSome contents (λ files. files path ≡ old)
 
@@ -109,14 +109,14 @@ written_files summary = flat_map (λ file. file_if_text file.resolved_path (new_
 abbrev pub accept_status : ℕ → ℕ → ℕ
 accept_status skipped changed = if skipped == 0 && changed == 0 then 0 else 1
 
--- `summary` is what `accept` shows about the list with the text `bytes` and the jobs `jobs`; its runs are those in `judged`, of which more
--- can be skipped
+-- `summary` is what `accept` shows about the list with the text `bytes` and the jobs `jobs`; its runs are those in `judged`, except that
+-- some accepted runs may have become skipped
 pub record IsAcceptOutcome (contents : Option FileContents) (args : AcceptArgs) (bytes : List ℕ) (jobs : List Job)
     (judged : List (Option JobRun)) (summary : AcceptSummary) : Type 0 where
   pub path : summary.list.path.now ≡ args.run.list.now
   pub text : summary.list.text.now ≡ bytes
   pub listed : summary.list.jobs.now ≡ jobs
-  -- the runs in `judged`, of which some that were accepted can be skipped; a skipped run stays skipped
+  -- the runs in `judged`, except that some accepted runs may have become skipped; a skipped run stays skipped
   pub runs : AreSkippedFrom judged summary.runs.now
   -- the text that each run, accepted or skipped, has for each golden file of its job
   pub golden_texts : summary.golden_texts.now ≡ golden_texts_of_runs 0 jobs summary.runs.now
@@ -154,8 +154,8 @@ pub record AreChangesWritten (check : Bool) (list : ListFile) (runs : List (Opti
   pub parts : IsAcceptSummaryOf list runs golden_texts files new summary
   pub written : IsAcceptanceWritten check summary status before after
 
--- only the warnings about golden files outside of the directory were written, to standard error; there are none if the committed files are
--- known
+-- only the warnings about golden files outside of the directory were written, to standard error; there are no warnings if the destination
+-- reports the committed files
 pub record AreOutsideFilesReported (before after : CommandOutputs) : Type 0 where
   pub message : List ℕ
   pub message_is_empty : IfSome before.committed (λ _. message ≡ [])
@@ -169,8 +169,8 @@ pub record AreJudgedRuns (contents : Option FileContents) (args : AcceptArgs) (j
   pub are_candidates : AreCandidates contents (optional_text args.run.root) rows jobs chosen candidates
   pub are_runs : judged ≡ judged_runs (acceptance_of args.ends) jobs candidates rows
 
--- `accept` wrote the warnings about golden files outside of the directory, ran the chosen jobs and the jobs that they are compared with,
--- without expectations, and wrote the summary and the changed files
+-- `accept` wrote the warnings about golden files outside of the directory, ran the jobs that `jobs_to_run` selects, without expectations,
+-- and wrote the summary and, without `--check`, the changed files
 pub record IsAcceptOfSelected (contents : Option FileContents) (args : AcceptArgs) (bytes : List ℕ) (jobs : List Job)
     (chosen : List Bool) (status : ℕ) (before after : CommandOutputs) : Type 0 where
   pub after_check : CommandOutputs

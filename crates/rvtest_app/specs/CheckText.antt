@@ -1,4 +1,4 @@
--- What `check` writes about a list without errors: a line for each file because of which a job is refused, a warning for each job that
+-- What `check` writes about a list without errors: a line for each file that is a reason why a job is refused, a warning for each job that
 -- expects two ends, a note if the images of all jobs are missing, and a line of totals.
 use Rattle.std.specs.Prelude.{◌==◌, ◌+◌, ℕ, List, [], ◌++◌, Option, Some, None, codes, if◌then◌else◌, length, option_map}
 use Rattle.std.specs.Prelude.{slice_get, unwrap_or}
@@ -31,7 +31,8 @@ use Rattle.rvtest_app.specs.MissingImages.{missing_images_line}
 
 -- ---- the location of a job
 
--- the number of the line on which each job begins, in list order; empty for a text that is not UTF-8, since such a text is not a valid list
+-- the number, counted from 1, of the line on which each job begins, in list order; empty for a text that is not UTF-8, since such a text is
+-- not a valid list
 abbrev pub job_begin_lines : List ℕ → List ℕ
 job_begin_lines text = if is_utf8 text then job_lines text else []
 
@@ -52,7 +53,7 @@ job_prefix severity path lines index job =
 abbrev pub refusal_text : Refusal → Option (List ℕ) → List ℕ
 refusal_text refusal reason = codes "refused " ++ refusal_name refusal ++ optional_reason_text reason
 
--- the error line for a file because of which the job at index `index` is refused, with the refusal and, if it is given, the reason
+-- the error line for a file that is a reason why the job at index `index` is refused, with the refusal and, if it is given, the reason
 unfoldable pub refused_file_line : List ℕ → List ℕ → ℕ → Job → Refusal → Option (List ℕ) → List ℕ
 refused_file_line path lines index job refusal reason = line (job_prefix (codes ": error:") path lines index job ++ refusal_text refusal reason)
 
@@ -66,7 +67,7 @@ abbrev pub refused_image_text : List ℕ → List ℕ → PlanView → List Unre
 refused_image_text path lines plan unread index job =
     unwrap_or (option_map (refused_image_line path lines plan unread index job) (image_refusal_in plan.results job)) []
 
--- the error line for the expectation file `file` of a job, with the reason why it could not be read; empty if it was read
+-- the error line for the expectation file `file` of a job, if it could not be read or is too long, with the reason; otherwise empty
 abbrev pub unread_reference_text : List ℕ → List ℕ → List UnreadablePath → ℕ → Job → Option Kept → Option (List ℕ) → List ℕ
 unread_reference_text path lines unread index job (Some kept.Unreadable) (Some file) =
     refused_file_line path lines index job refusal.ReferenceUnreadable (Some (unread_file_text unread file))
@@ -74,13 +75,14 @@ unread_reference_text path lines unread index job (Some kept.TooLong) (Some file
     refused_file_line path lines index job refusal.ReferenceTooLong (Some (too_long_file_text file))
 unread_reference_text path lines unread index job _ _ = []
 
--- the error line for an expectation file of a job; empty if it was read or the job names none
+-- the error line for an expectation file of a job, if it could not be read or is too long; otherwise empty, also if the job has no such
+-- file
 abbrev pub reference_text : List ℕ → List ℕ → PlanView → List UnreadablePath → ℕ → Job → Option (List ℕ) → List ℕ
 reference_text path lines plan unread index job file =
     unread_reference_text path lines unread index job (option_map (result_or_unreadable plan.results) file) file
 
--- the error lines for the files because of which a job is refused: its image, the file of its expected signature, and that of its expected
--- console output
+-- the error lines for the files that are reasons why a job is refused: its image, the file of its expected signature, and the file of its
+-- expected console output
 unfoldable pub refused_files_text : List ℕ → List ℕ → PlanView → List UnreadablePath → ℕ → Job → List ℕ
 refused_files_text path lines plan unread index job = refused_image_text path lines plan unread index job
     ++ (reference_text path lines plan unread index job job.expect_signature

@@ -75,8 +75,8 @@ abbrev pub IsGdbStop : Option FileContents → Bool → GdbArgs → Stop → Typ
 IsGdbStop contents is_terminal args stop = IsSessionNotStartedStop contents is_terminal args stop
     ⊎ ((is_terminal ≡ false) × ((error : SessionError) × IsSessionErrorStop error stop))
 
--- `gdb` stopped: either no session was started and nothing was written, or the session ended with an error; one more write failed if the
--- error is a failed write, else none
+-- `gdb` stopped: either no session was started and nothing was written, or the session ended with an error; the number of failed writes
+-- grows by one if the error is a failed write, and otherwise stays
 abbrev pub IsGdbStopped : Option FileContents → Bool → GdbArgs → Stop → CommandOutputs → CommandOutputs → ℕ → ℕ → Type 0
 IsGdbStopped contents is_terminal args stop before after failures_before failures_after =
     (IsSessionNotStartedStop contents is_terminal args stop × (after ≡ before))
@@ -110,7 +110,7 @@ IsShowStop contents args stop = IsShowOverwriteStop args stop ⊎ (IsRequestedUn
     × IsOutputStop None (optional_text args.junit) stop)))
 
 -- why the requested command stopped. For commands that write one text, such as `explain` and `list`, a failed write to standard output is
--- one reason more.
+-- another reason.
 abbrev pub IsCommandStop : Option FileContents → Bool → Request → Stop → Type 0
 IsCommandStop contents is_terminal (request.Explain args) stop = (stop ≡ stops.WriteFailed) ⊎ IsExplainStop contents args stop
 IsCommandStop contents is_terminal (request.List args) stop = (stop ≡ stops.WriteFailed) ⊎ IsListStop contents args stop

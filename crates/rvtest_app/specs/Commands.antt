@@ -20,8 +20,8 @@ abbrev pub failure_rule : Bool → Rule
 failure_rule true = Lenient
 failure_rule false = Strict
 
--- how the rows of a report are judged: by the lenient rule with `--lenient` (the Bool), otherwise by the strict rule; no job is known to
--- fail
+-- how the rows of a report are judged: by the lenient rule with `--lenient` (the Bool), otherwise by the strict rule; no job counts as a
+-- known failure
 abbrev pub report_judging : Bool → JudgeView
 report_judging is_lenient = judge_by_rule (failure_rule is_lenient)
 

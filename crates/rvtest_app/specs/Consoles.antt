@@ -41,8 +41,8 @@ pub record IsConsoleOf (contents : Option FileContents) (bytes name console line
   pub first : IsFirstJobNamed jobs name index
   pub of_job : IsJobConsole contents jobs index console line status
 
--- `console`, `line` and `status` are the console output, the result line and the exit status of the job that the arguments name, in the
--- list at their path
+-- `console`, `line` and `status` are the console output, the result line and the exit status of the job with the requested name in the list
+-- at the path in the arguments
 pub record IsConsoleAt (contents : Option FileContents) (args : ConsoleArgs) (console line : List ℕ) (status : ℕ)
     : Type 0 where
   pub bytes : List ℕ

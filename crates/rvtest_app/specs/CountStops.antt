@@ -43,7 +43,7 @@ abbrev pub two_names_message : List ℕ → ℕ → List ℕ
 two_names_message path function = codes "rvtest: " ++ printable_text path ++ codes ": the function at " ++ word_digits function
     ++ codes " has two names in one image\n"
 
--- the stop reports this error: memory ran out, or why the table at the path cannot be added to the sum of the earlier tables
+-- why a command stopped: adding the table at the path to the sum of the earlier tables ended with this error
 abbrev pub IsSumErrorStop : List ℕ → SumError → Stop → Type 0
 IsSumErrorStop path sum_error.OutOfMemory stop = stop ≡ stops.OutOfMemory
 IsSumErrorStop path (sum_error.Count address) stop = IsStop 2 (count_overflow_message path (codes ": the count at ") address) stop
@@ -52,7 +52,7 @@ IsSumErrorStop path (sum_error.Node function) stop =
 IsSumErrorStop path (sum_error.Names function) stop = IsStop 2 (two_names_message path function) stop
 IsSumErrorStop path sum_error.Runs stop = IsStop 2 (path_message path (codes "the number of runs does not fit in 64 bits")) stop
 
--- why a command stopped: counting jobs with call stacks ended with this error; the message names `path` if counts cannot be added up
+-- why a command stopped: counting jobs with call stacks ended with this error; if counts cannot be added up, the message names `path`
 abbrev pub IsCountErrorStop : List ℕ → CountError → Stop → Type 0
 IsCountErrorStop path (count.Run error) stop = stop ≡ stop_of_run_error error
 IsCountErrorStop path (count.Sum error) stop = IsSumErrorStop path error stop

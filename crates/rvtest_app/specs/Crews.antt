@@ -10,7 +10,7 @@ abbrev pub AreRequestedWorkers : Option ℕ → ℕ → Type 0
 AreRequestedWorkers (Some args) workers = workers ≡ max 1 (min args 64)
 AreRequestedWorkers None workers = (1 ≤ workers) × (workers ≤ 64)
 
--- how many jobs a thread claims at once: the requested number, but at least 1 and at most 4,096
+-- how many jobs a thread takes at a time: the requested number, but at least 1 and at most 4,096
 abbrev pub requested_group : ℕ → ℕ
 requested_group args = max 1 (min args 4096)
 

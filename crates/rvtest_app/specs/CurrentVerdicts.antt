@@ -1,5 +1,5 @@
--- The verdicts on the jobs that `accept` runs: whether they pass with their golden files as they are now, and whether they differ from the
--- jobs that they are compared with.
+-- The verdicts on the jobs that `accept` runs: whether they pass, compared with those of their golden files that must be read, and whether
+-- they differ from the jobs that they are compared with.
 use Rattle.std.specs.Prelude.{◌≡◌, ◌⊎◌, ◌≤◌, ◌<◌, ◌&&◌, ℕ, Bool, true, false, List, [], ◌∷◌, Option, Some, None, IfSome, IsSomeAnd, if◌then◌else◌, length, slice_get}
 use Rattle.std.specs.List.{list_any}
 use Rattle.rv_accept.specs.Ends.{is_accepted_end}
@@ -36,19 +36,20 @@ abbrev pub AreContentsUpToLimit : Option FileContents → List ℕ → Option (L
 AreContentsUpToLimit contents path None = IsMissingAt contents path ⊎ IsTooLongAt contents path
 AreContentsUpToLimit contents path (Some bytes) = (length bytes ≤ max_file_size) × IfSome contents (λ files. files path ≡ Some bytes)
 
--- `text` is the contents of the golden file at the path, resolved against `root`, or `None` if no path is given or it cannot be read
+-- `text` is the contents of the golden file at the path, resolved against `root`; `None` if no path is given, or if the file does not exist
+-- or is too long
 abbrev pub IsGoldenText : Option FileContents → Option (List ℕ) → Option (List ℕ) → Option (List ℕ) → Type 0
 IsGoldenText contents root None text = text ≡ None
 IsGoldenText contents root (Some path) text = AreContentsUpToLimit contents (resolved_path root path) text
 
--- the path of a golden file if its contents matter for the verdict; `None` if the job ended as expected, since it is then accepted whatever
--- they are
+-- the path of a golden file if the file must be read to decide whether the job is skipped; `None` if the job ended as expected: then the
+-- file need not be read, and the verdict will not be `Passes`, even if the file matches
 abbrev pub path_to_read : Job → Row → Option (List ℕ) → Option (List ℕ)
 path_to_read job row path = if is_accepted_end acceptance.Expected job row.ending then None else path
 
 -- ---- one job
 
--- the row of the job that `same_as` names; `None` if it names none, or that job did not run
+-- the row of the job that `same_as` names; `None` if it names none, or if that job has no row
 abbrev pub compared_row : List (Option Row) → Option ℕ → Option Row
 compared_row rows None = None
 compared_row rows (Some index) = row_or_none (slice_get rows index)
@@ -77,7 +78,8 @@ comparison_with rows job row console signature = record {
   other = compared_row rows job.same_as;
 }
 
--- `verdict` is the verdict on the job with this row, compared with its golden files as they are now and with the rows of all jobs
+-- `verdict` is the verdict on the job with this row, compared with the rows of all jobs and with those of its golden files that must be
+-- read; a file that was not read counts as missing
 pub record IsCurrentVerdict (contents : Option FileContents) (root : Option (List ℕ)) (rows : List (Option Row)) (job : Job) (row : Row)
     (verdict : CurrentVerdict) : Type 0 where
   pub console : Option (List ℕ)

@@ -67,7 +67,8 @@ pub record IsSessionOpenedOf (contents : Option FileContents) (args : GdbArgs) (
   pub first : IsFirstJobNamed jobs args.name.now index
   pub of_job : IsJobOpened (contents_below (optional_text args.root) contents) (optional_text args.root) jobs index end_text session
 
--- `session` debugs the job that the arguments name, in the list at their path, and `end_text` is the text that `run` prints about the job
+-- `session` debugs the job with the requested name in the list at the path in the arguments, and `end_text` is the text that `run` prints
+-- about the job
 pub record IsSessionOpenedAt (contents : Option FileContents) (args : GdbArgs) (end_text : List ℕ) (session : Session) : Type 0 where
   pub bytes : List ℕ
   pub read : IsTextAt contents args.list.now bytes
@@ -89,7 +90,7 @@ pub record IsGdbServed (contents : Option FileContents) (is_terminal : Bool) (ar
   -- the replies; when the run ends, they contain what `run` prints about the job
   pub replies : List ℕ
   pub last : Session
-  -- whether the end of the input can have interrupted a command that runs the job; if not, only Ctrl-C (the byte 0x03) did
+  -- whether not only Ctrl-C (the byte 0x03), but also the end of the input can have interrupted a command that runs the job
   pub may_end : Bool
   pub at_end : may_end ≡ true → IsAtEnd rest
   pub responded : IsReceived end_text may_end first received replies last

@@ -38,13 +38,13 @@ AreOldRows contents args jobs old_rows = MatchOption args.into (old_rows ≡ Non
 
 -- ---- the updated report
 
--- `old_rows` with the rows at some indices replaced: that at the first index by the first of the new rows, and so on
+-- `old_rows`, where the rows at the given indices are replaced: the row at the first index by the first new row, and so on
 abbrev pub merged_rows : List ℕ → List Row → List Row → List Row
 merged_rows [] rows old_rows = old_rows
 merged_rows (index ∷ indices) [] old_rows = old_rows
 merged_rows (index ∷ indices) (row ∷ rows) old_rows = merged_rows indices rows (slice_set old_rows index row)
 
--- the text of a run's report: the old report with the rows of the run replaced if there is one, else a report of these rows alone
+-- the text of a run's report: if there is an old report, its rows with those of the run replaced, else a report of the run's rows alone
 abbrev pub run_report_text : Option (List Row) → ℕ → List ℕ → Option Shard → List Row → List ℕ
 run_report_text (Some old_rows) jobs indices shard rows = report_text (merged_rows indices rows old_rows)
 run_report_text None jobs indices shard rows = chosen_report_text jobs indices shard rows

@@ -12,7 +12,7 @@ use Rattle.rv_rows.specs.JobList.{names_of_jobs}
 use Rattle.rv_rows.specs.declared_job.Job.{Job}
 use Rattle.rv_job_text.specs.Printable.{printable_text, printable_value}
 
--- `known` says which of the jobs the file of known failures at the path names, and has the path
+-- `known` has the path of a file of known failures, and says which of the jobs this file names
 pub record IsKnownFile (contents : Option FileContents) (path : List ℕ) (jobs : List Job) (known : KnownJobs) : Type 0 where
   pub bytes : List ℕ
   pub read : IsTextAt contents path bytes

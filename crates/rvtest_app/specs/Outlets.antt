@@ -66,7 +66,8 @@ module _ {P W : Type 0} where
   has_no_failure failure_count outlet.Stdout = ⊤
   has_no_failure failure_count (outlet.File file) = failure_count file.sink ≡ 0
 
-  -- the outlet is for this path; if it is a file and the committed files are known, it has received this text so far and no write failed
+  -- the outlet is for this path; if it is a file, no write to it failed, and if the committed files are known, it has received this text so
+  -- far
   abbrev pub HasReceived : (P → List ℕ) → (W → Option (List ℕ)) → (W → ℕ) → Option (List CommittedFile)
       → Option (List ℕ) → List ℕ → Outlet P W → Type 0
   HasReceived pending_path accepted failure_count committed path text outlet.Nowhere = path ≡ None

@@ -68,11 +68,11 @@ abbrev pub output_role_text : InputRole → List ℕ
 output_role_text (role.Word word) = word.now
 output_role_text (role.JobFile key job) = job_output_text key.now job.now
 
--- the first half of a message: `option` with its path, and "would overwrite"
+-- the beginning of a message about an input that would be overwritten: `option` with its path, and "would overwrite"
 abbrev pub overwrite_prefix : List ℕ → List ℕ → List ℕ
 overwrite_prefix option path = codes "rvtest: " ++ option ++ codes " \"" ++ printable_text path ++ codes "\" would overwrite "
 
--- the second half of that message: a colon and the path of the input in double quotes
+-- the end of a message about an input that would be overwritten: a colon and the path of the input in double quotes
 abbrev pub input_path_text : List ℕ → List ℕ
 input_path_text path = codes ": \"" ++ printable_text path ++ codes "\"\n"
 
@@ -104,7 +104,7 @@ golden_paths_of_job root job = map (resolved_path root)
 abbrev pub paths_of_job : Option (List ℕ) → Job → List (List ℕ)
 paths_of_job root job = resolved_path root job.image ∷ golden_paths_of_job root job
 
--- the files that a run must not write: its list, the file of known failures, and the files of all jobs of the list
+-- the files that a run must not overwrite: its list, the file of known failures, and the files of all jobs of the list
 abbrev pub inputs_of_run : RunArgs → List Job → List (List ℕ)
 inputs_of_run args jobs = args.list.now ∷ option_to_list (optional_text args.known)
     ++ flat_map (paths_of_job (optional_text args.root)) jobs
@@ -155,7 +155,7 @@ AreRunInputsPreserved contents args before after = (after ≡ before)
 abbrev pub image_paths : Option (List ℕ) → Job → List (List ℕ)
 image_paths root job = resolved_path root job.image ∷ []
 
--- the files that `accept` must not write, apart from the list: the report that `--failed` names, and the images of all jobs
+-- the files that `accept` must not overwrite, apart from the list: the report that `--failed` names, and the images of all jobs
 abbrev pub inputs_of_accept : AcceptArgs → List Job → List (List ℕ)
 inputs_of_accept args jobs = failed_report_path args.run ++ flat_map (image_paths (optional_text args.run.root)) jobs
 
@@ -174,7 +174,7 @@ is_read inputs path = list_any (is_among (path ∷ [])) inputs
 abbrev pub is_golden_input : List (List ℕ) → InputPath → Bool
 is_golden_input inputs golden = is_read inputs (path_buf_bytes golden.path)
 
--- `accept` overwrites no input: the list is no other input, and no golden file of a selected job is the list or another input
+-- `accept` overwrites no input: the list is not another input, and no golden file of a selected job is the list or another input
 pub record AreAcceptFilesNotInputs (args : AcceptArgs) (jobs : List Job) (selection : List Bool) : Type 0 where
   pub list_is_no_input : IsNotAnInput (inputs_of_accept args jobs) args.run.list.now
   pub golden_is_not_list : list_any (is_read (args.run.list.now ∷ [])) (golden_paths_of_selected (optional_text args.run.root) jobs selection) ≡ false
@@ -185,19 +185,21 @@ pub record AreAcceptFilesNotInputs (args : AcceptArgs) (jobs : List Job) (select
 abbrev pub outside_prefix : List ℕ → List ℕ → List ℕ
 outside_prefix head role = head ++ role
 
--- the middle of that message: the path of the golden file in double quotes, and "is outside the directory"
+-- the middle of a message about a golden file outside of the directory: the path of the golden file in double quotes, and "is outside the
+-- directory"
 abbrev pub outside_path : List ℕ → List ℕ
 outside_path path = codes " \"" ++ printable_text path ++ codes "\" is outside the directory "
 
--- a text in double quotes
+-- a text in double quotes, with unprintable bytes escaped
 abbrev pub quoted_text : List ℕ → List ℕ
 quoted_text text = codes "\"" ++ printable_text text ++ codes "\""
 
--- the text for a golden file outside of the directory: `head`, `role`, which says which job names the file, its path, and the directory
+-- the text about a golden file outside of the directory: `head`; `role`, which says which job names the file; the path of the file; and the
+-- directory
 abbrev pub outside_text : List ℕ → List ℕ → List ℕ → List ℕ → List ℕ
 outside_text head role path directory = outside_prefix head role ++ outside_path path ++ quoted_text directory
 
--- the message for a golden file outside of the directory, with the hint that `--outside` allows this
+-- the message for a golden file outside of the directory, with a hint about `--root` and `--outside`
 abbrev pub outside_message : List ℕ → List ℕ → List ℕ → List ℕ
 outside_message role path directory = outside_text (codes "rvtest: ") role path directory
     ++ codes "; use --root DIR to resolve relative paths against DIR, or --outside to write it\n"

@@ -18,11 +18,11 @@ unfoldable pub line_if_refused : JudgeView → PlanView → List UnreadablePath 
 line_if_refused judging plan unread job =
     if is_job_refused plan job then row_line plan unread judging job (row_of plan job) else []
 
--- the result lines of those jobs at these indices that are refused
+-- the result lines of the refused jobs among the jobs at these indices
 abbrev pub refused_lines : JudgeView → PlanView → List UnreadablePath → List ℕ → List ℕ
 refused_lines judging plan unread indices = flat_map (line_if_refused judging plan unread) (jobs_at plan indices)
 
--- the note about missing images, which can be empty, and then the result lines of those jobs at these indices that are refused
+-- the note about missing images, which can be empty, and then the result lines of the refused jobs among the jobs at these indices
 abbrev pub refused_note : RunArgs → PlanView → List UnreadablePath → List ℕ → List ℕ
 refused_note args plan unread indices = missing_images_note plan.jobs unread (length indices) (optional_text args.root)
     ++ refused_lines (report_judging args.lenient) plan unread indices

@@ -9,7 +9,7 @@ use Rattle.rv_job_text.specs.TotalsLine.{totals_line}
 use Rattle.rv_expect.specs.Judgement.{JudgeView, fails, judgement}
 use Rattle.rv_job_text.specs.ResultLine.{result_line}
 
--- the result line of a row that is a failure, with what a report contains of it; empty if the row is no failure
+-- the result line of a row that is a failure, without symbol and reason, which a report does not contain; empty if the row is not a failure
 abbrev pub failed_line : JudgeView → Row → List ℕ
 failed_line judging row = if fails judging row then result_line (judgement judging row) row None None else []
 

@@ -7,7 +7,7 @@ use Rattle.rvtest_app.specs.RunOutput.{chosen_last_line, chosen_report_text}
 use Rattle.rvtest_app.specs.declared.report_texts.ReportText.{ReportText}
 use Rattle.rvtest_app.specs.declared.report_texts.ReportText.TheVariants as report
 
--- the text of a report: of all rows, of a shard or of chosen jobs, or an old report with the rows of the run replaced
+-- the text of a report: of all rows; of a shard or of chosen jobs; or of an old report in which the run's rows replace the old ones
 abbrev pub report_text_of : ReportText → List ℕ
 report_text_of (report.Whole rows) = report_text rows
 report_text_of (report.Chosen chosen shard) = chosen_report_text chosen.jobs chosen.indices.now shard chosen.rows

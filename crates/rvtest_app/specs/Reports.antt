@@ -53,7 +53,7 @@ requested_comparison true slower = Steps
 requested_comparison false (Some percent) = Slower percent
 requested_comparison false None = Outcomes
 
--- whether the first report is of chosen jobs only, and the second of a whole list
+-- whether the first extent is that of a report of chosen jobs, and the second that of a report of a whole list
 abbrev pub is_partial_of_whole : Extent → Extent → Bool
 is_partial_of_whole (extent.Selection jobs) extent.Whole = true
 is_partial_of_whole _ _ = false
@@ -159,8 +159,8 @@ pub record IsJobExplained (contents : Option FileContents) (jobs : List Job) (in
 abbrev pub IsFirstJobNamed : List Job → List ℕ → ℕ → Type 0
 IsFirstJobNamed jobs name index = position (λ (job : Job). bytes_eq job.name name) jobs ≡ Some index
 
--- `output` and `status` are the output and exit status of `explain` for the list with the text `bytes`; a requested budget replaces that of
--- the job
+-- `output` and `status` are the output and exit status of `explain` for the list with the text `bytes`; a requested budget replaces the
+-- job's own
 pub record IsExplanationOf (contents : Option FileContents) (args : ExplainArgs) (bytes output : List ℕ) (status : ℕ)
     : Type 0 where
   pub jobs : List Job

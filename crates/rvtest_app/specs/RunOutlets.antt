@@ -8,8 +8,8 @@ use Rattle.rvtest_app.specs.Outlets.{HasReceived, has_no_failure}
 use Rattle.rvtest_app.specs.declared.run_outlets.RunOutlets.{RunOutlets}
 
 module _ {P W : Type 0} where
-  -- the outlets are for the paths in the arguments; that of the report has received this text so far, the others nothing, and no write
-  -- failed
+  -- the outlets are for the paths in the arguments; the outlet of the report has received this text so far, the others nothing, and no
+  -- write failed
   pub record HaveRunOutletsReceived (pending_path : P → List ℕ) (accepted : W → Option (List ℕ)) (failure_count : W → ℕ)
       (committed : Option (List CommittedFile)) (args : RunArgs) (text : List ℕ) (outlets : RunOutlets P W) : Type 0 where
     pub report : HasReceived pending_path accepted failure_count committed (run_report_path args) text outlets.report

@@ -102,7 +102,8 @@ run_reporter args failures plan unread = record {
   last = args.last;
 }
 
--- the rows of the jobs at these indices, in order; if `stop_after` is given, they end with so many failures
+-- the rows of the jobs at these indices, in order; if `stop_after` is a number, only the rows up to and including the failure with this
+-- number
 abbrev pub run_rows : Option ℕ → JudgeView → PlanView → List ℕ → List Row
 run_rows stop_after judging plan indices = rows_up_to stop_after (fails judging) (rows_at plan indices)
 
@@ -138,8 +139,8 @@ abbrev pub IsCountsText : Bool → PlanView → List ℕ → List ℕ → Type 0
 IsCountsText stacks plan indices text =
     (table : CountTable) × (IsCountsTable stacks plan indices table × (text ≡ table_text table))
 
--- the table of counts of the jobs at these indices, with call stacks if `stacks` is true, was written to the path; without a path nothing
--- was
+-- the table of counts of the jobs at these indices, with call stacks if `stacks` is true, was written to the path; without a path, nothing
+-- was written
 abbrev pub AreCountsWritten : Bool → Option (List ℕ) → PlanView → List ℕ → CommandOutputs → CommandOutputs → Type 0
 AreCountsWritten stacks None plan indices before after = IsWrittenAt None [] before after
 AreCountsWritten stacks (Some path) plan indices before after =

@@ -10,8 +10,8 @@ use Rattle.rvtest_app.specs.Crews.{IsRunErrorStop}
 use Rattle.rvtest_app.specs.WriteStops.{IsFileStop}
 use Rattle.rvtest_app.specs.WrittenTexts.{written_path}
 
--- why a command stopped: call stacks are requested, and counting jobs with them ended with an error; the message names the path of the
--- table, or `-` without a path, if counts cannot be added up
+-- why a command stopped: call stacks are requested, and counting jobs with them ended with an error; if counts cannot be added up, the
+-- message names the path of the table, or `-` if none is given
 abbrev pub IsStackSumStop : RunArgs → Stop → Type 0
 IsStackSumStop args stop = (args.stacks ≡ true)
     × ((error : CountError) × IsCountErrorStop (written_path (optional_text args.counts)) error stop)

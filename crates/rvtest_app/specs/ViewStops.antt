@@ -32,7 +32,7 @@ use Rattle.rvtest_app.specs.declared.view.View.TheVariants as view
 
 -- ---- a table that cannot be used
 
--- the message that the table at `table_path` counted another image at `path` than the one that the selected jobs use
+-- the message that the table at `table_path` has counts of an image at `path` that differs from the image that the selected jobs use
 abbrev pub other_image_message : List ℕ → List ℕ → List ℕ
 other_image_message table_path path = codes "rvtest: " ++ printable_text table_path ++ codes ": " ++ printable_text path
     ++ codes ": counted with a different image than the selected jobs use\n"
@@ -63,8 +63,8 @@ IsMismatchedTableStop contents requested_view path images stop = IsNoTableStop c
 
 -- ---- runs that cannot be counted
 
--- why a command stopped: the jobs at these indices could not be counted with call stacks; the message names `path` if counts cannot be
--- added up
+-- why a command stopped: the jobs at these indices could not be counted with call stacks; if counts cannot be added up, the message names
+-- `path`
 abbrev pub IsStackSumOfJobsStop : PlanView → List ℕ → List ℕ → Stop → Type 0
 IsStackSumOfJobsStop plan indices path stop =
     (error : CountError) × (IsCountError plan indices error × IsCountErrorStop path error stop)
@@ -84,7 +84,7 @@ IsNoViewTableStop contents args requested_view (Some path) plan indices stop =
 
 -- ---- sums that do not fit in 64 bits
 
--- the path to which a message about counts refers: that of the table, or else that of the list
+-- the path to which a message about counts refers: the path of the table, or else the path of the list
 abbrev pub counts_source : RunArgs → List ℕ
 counts_source args = unwrap_or (optional_text args.counts) args.list.now
 

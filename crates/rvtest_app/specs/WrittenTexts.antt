@@ -12,7 +12,7 @@ abbrev pub written_path : Option (List ℕ) → List ℕ
 written_path (Some path) = path
 written_path None = codes "-"
 
--- the text was written to the file at the path, or to standard output if the path is `-`, and nothing else was written; without a path
+-- the text was written to the file at the path, or to standard output if the path is `-`, and nothing else was written; without a path,
 -- nothing was written
 pub record IsWrittenAt (path : Option (List ℕ)) (text : List ℕ) (before after : CommandOutputs) : Type 0 where
   pub out : Appends before.out after.out (stdout_at path text)

@@ -69,7 +69,7 @@ struct BareJobs {
     ghost same_length: { length selection.items ≡ length jobs },
 }
 
-// What `accept` changes: the text that each run has for a golden file, the golden files, and the new list.
+// What `accept` changes: the texts that the runs have for golden files, the golden files, and the new list.
 #[derive(Drop)]
 struct AcceptChanges {
     golden_texts: Vec<GoldenText>,
@@ -108,7 +108,7 @@ pub(crate) fn accept_runs<
     }
 }
 
-// Runs the chosen jobs and the jobs that they are compared with, and accepts the results of the chosen ones. Returns the exit status.
+// Runs the chosen jobs and all other jobs that must run for this, and accepts the results of the chosen ones. Returns the exit status.
 fn accept_chosen<
     R: Threads + Wait + Sync,
     D: Inputs,
@@ -237,7 +237,8 @@ fn chosen_list<R, D: Inputs>(
     })
 }
 
-// Returns the jobs of a list without their expectations. Selected to run are the chosen jobs and the jobs that they are compared with.
+// Returns the jobs of a list without their expectations, and which of them must run: the chosen jobs, the jobs that share a golden file
+// with a chosen job, and the jobs that one of these names by `same_as`.
 fn selected_jobs(alloc: Global, list: &ChosenList, chosen: &[bool]) -> Result<BareJobs, AllocError>
     requires { length chosen.now ≡ length list.now.jobs }
     ensures jobs { IfOk result (λ selected. selected.jobs ≡ map without_expectations list.now.jobs) }
@@ -288,7 +289,8 @@ fn run_selected<
     }
 }
 
-// Returns the golden files, with their current and new contents, and the new list, as they are if the runs are accepted.
+// Returns what accepting these runs changes: the text that each run has for a golden file, the golden files with their current contents,
+// and the new list.
 fn changes_of_runs<R, D: Inputs>(
     host: &Host<'_, R, D>,
     args: &AcceptArgs<'_>,

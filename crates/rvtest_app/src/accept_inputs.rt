@@ -21,7 +21,7 @@ use rvtest_cli::AcceptArgs;
 use std::alloc::{AllocError, Global};
 use std::path::Path;
 
-// The files that `accept` reads: its list, the files that it must not write, and the golden files of all jobs.
+// The files that `accept` reads: its list, the files that it must not overwrite, and the golden files of all jobs.
 #[derive(Drop)]
 struct AcceptReads<'a> {
     list: InputFiles<'a>,
@@ -74,7 +74,7 @@ fn input_files<'a, F: Outputs>(
     })
 }
 
-// Returns the files that `accept` must not write, apart from the list: the report that `--failed` names, and the images of all jobs.
+// Returns the files that `accept` must not overwrite, apart from the list: the report that `--failed` names, and the images of all jobs.
 fn inputs_of_accept<'a>(
     alloc: Global,
     args: &AcceptArgs<'_>,
@@ -128,7 +128,7 @@ fn push_golden_of_selected<'a>(
     }
 }
 
-// Returns an error if writing the list would overwrite an input.
+// Returns an error if writing the list would overwrite an input or a golden file.
 fn reject_list_overwrite<F: Outputs>(
     files: &F,
     alloc: Global,
@@ -143,7 +143,7 @@ fn reject_list_overwrite<F: Outputs>(
     reject_file_overwrite(files, alloc, "the updated list", list_path, &reads.golden)
 }
 
-// Returns an error if writing one of the golden files would overwrite the list or an input.
+// Returns an error if writing one of the golden files would overwrite the list or an input, or if another path also leads to one of them.
 fn reject_golden_overwrites<F: Outputs>(
     files: &F,
     alloc: Global,
@@ -160,7 +160,8 @@ fn reject_golden_overwrites<F: Outputs>(
     Ok(())
 }
 
-// Returns an error if writing this golden file would overwrite the list or an input.
+// Returns an error if writing this golden file would overwrite the list or an input, or if the path of another golden file leads to it,
+// too.
 fn reject_golden_overwrite<F: Outputs>(
     files: &F,
     alloc: Global,
@@ -189,8 +190,8 @@ fn reject_golden_overwrite<F: Outputs>(
     reject_if_found(alloc, golden, &reads.golden, other)
 }
 
-// Returns the index of the first input that is one of the files with these identities, but has another path than `path`; `None` if there is
-// none.
+// Returns the index of the first input that is one of the files with these identities, but whose path differs from `path`; `None` if there
+// is none.
 fn first_with_other_path(inputs: &InputFiles<'_>, identities: &[Text], path: &str) -> Option<usize>
     ensures { IfSome result (λ index. index < length inputs.now.paths.items) }
 {
@@ -204,7 +205,7 @@ fn first_with_other_path(inputs: &InputFiles<'_>, identities: &[Text], path: &st
     None
 }
 
-// Returns an error if `first` is given: it is the index of an input that writing the golden file would overwrite.
+// Returns an error if writing the golden file would overwrite an input; `first` is the index of the first such input, or `None`.
 fn reject_if_found(
     alloc: Global,
     golden: &InputPath<'_>,
@@ -342,7 +343,7 @@ fn outside_stop(alloc: Global, directory: &str, golden: &InputPath<'_>) -> Stop
     Stop::rejection(outside_message(alloc, directory, golden))
 }
 
-// Returns the message for a golden file outside of `directory`, with the hint that `--outside` allows this.
+// Returns the message for a golden file outside of `directory`, with a hint about `--root` and `--outside`.
 fn outside_message(
     alloc: Global,
     directory: &str,
@@ -357,7 +358,7 @@ fn outside_message(
     Ok(text)
 }
 
-// Appends the text for a golden file outside of `directory`: `head`, which job names the file, its path, and the directory.
+// Appends the text about a golden file outside of `directory`: `head`, the job and the key that name the file, the path, and the directory.
 fn push_outside_text(
     alloc: Global,
     text: &mut Vec<u8>,
@@ -374,14 +375,14 @@ fn push_outside_text(
     push_quoted_text(text, directory)
 }
 
-// Appends the beginning of a message about a golden file outside of the directory: `head`, and `role`, which says how the file is named.
+// Appends the beginning of a message about a golden file outside of the directory: `head`, and `role`, which says what names the file.
 fn push_outside_prefix(text: &mut Vec<u8>, head: &str, role: &str) -> Result<(), AllocError>
     ensures { OnOk result (text.new.items ≡ text.old.items ++ outside_prefix head.now role.now) }
 {
     push_spans(text, &[Span::Text(head), Span::Text(role)])
 }
 
-// Appends the middle of such a message: the path of the golden file in double quotes, and "is outside the directory".
+// Appends the middle of a message about a golden file outside of the directory: its path in double quotes, and "is outside the directory".
 fn push_outside_path(text: &mut Vec<u8>, path: &str) -> Result<(), AllocError>
     ensures { OnOk result (text.new.items ≡ text.old.items ++ outside_path path.now) }
 {

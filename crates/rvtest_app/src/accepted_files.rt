@@ -117,7 +117,7 @@ fn old_text(file: &GoldenFile) -> Option<&[u8]> {
     }
 }
 
-// Returns an error if the contents of the file at the path are no longer `old`; `None` says that it did not exist.
+// Returns an error if the contents of the file at the path are no longer `old`, which is `None` if the file did not exist.
 fn check_unchanged<D: Inputs>(
     inputs: &D,
     alloc: Global,
@@ -154,7 +154,8 @@ fn changed_stop(alloc: Global, path: &str) -> Stop
     Stop::system_failure(path_message(alloc, path, reason))
 }
 
-/// Writes each golden file that changes, in list order, and then the list. Each file is written completely or left unchanged.
+/// Writes each golden file that changes, in list order, and then the list, if it changes. Each file is written completely or left
+/// unchanged.
 pub(crate) fn write_accepted_files<F: Outputs>(
     files: &mut F,
     alloc: Global,
@@ -175,8 +176,8 @@ pub(crate) fn write_accepted_files<F: Outputs>(
     }
 }
 
-/// Reads the list, if it was written, and the golden files back, and returns an error if one has other contents than were written: two
-/// paths then lead to one file. Golden files for which the jobs have different texts are not read.
+/// Reads the golden files and, if it was written, the list back, and returns an error if one does not contain its new text: then two paths
+/// lead to one file. Golden files without a text on which all their jobs agree are not read.
 pub(crate) fn check_written_files<D: Inputs>(
     inputs: &D,
     alloc: Global,

@@ -122,7 +122,7 @@ fn check_status(refused: usize) -> u8
     if refused == 0 { DONE } else { REJECTED }
 }
 
-// Returns the number of the line on which each job begins; an empty list if the text is not UTF-8.
+// Returns the number, counted from 1, of the line on which each job begins; an empty list if the text is not UTF-8.
 fn job_begin_lines(alloc: Global, text: &[u8]) -> Result<Vec<usize>, AllocError>
     ensures { IfOk result (λ lines. lines.items ≡ job_begin_lines text.now) }
 {

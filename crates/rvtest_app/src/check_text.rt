@@ -38,7 +38,7 @@ struct Reference<'a> {
 }
 
 impl<'a> CheckedList<'a> {
-    /// Appends a line for each file because of which a job is refused, and returns the number of refused jobs.
+    /// Appends a line for each file that is a reason why a job is refused, and returns the number of refused jobs.
     pub(crate) fn push_refused_jobs(
         &self,
         alloc: Global,
@@ -83,7 +83,7 @@ impl<'a> CheckedList<'a> {
         }
     }
 
-    // Appends the lines for the files because of which the job at index `index` is refused.
+    // Appends a line for each file that is a reason why the job at index `index` is refused.
     #[tactic(auto, unfolding(crate::specs::CheckText::refused_files_text))]
     fn push_refused_files(
         &self,
@@ -160,7 +160,7 @@ impl<'a> CheckedList<'a> {
         }
     }
 
-    // Appends the line for a file because of which the job at index `index` is refused.
+    // Appends the line for a file that is a reason why the job at index `index` is refused.
     #[tactic(auto, unfolding(crate::specs::CheckText::refused_file_line))]
     fn push_refused_file(
         &self,
@@ -317,7 +317,7 @@ fn push_two_ends(
     )
 }
 
-// Returns the name that a list uses for the expected end: the name of the fault, or "budget". Used only for an end that is given.
+// Returns the name that a list uses for the expected end: the name of the fault, or "budget". The callers always give an end.
 fn expected_end_name(end: Option<ExpectedEnd>) -> &'static str
     ensures { result.now ≡ expected_end_name end }
 {
@@ -327,7 +327,7 @@ fn expected_end_name(end: Option<ExpectedEnd>) -> &'static str
     }
 }
 
-/// Appends the line that counts the jobs, the refused jobs and the warnings.
+/// Appends the line with the number of jobs, of refused jobs and of warnings.
 #[tactic(auto, unfolding(crate::specs::CheckText::job_counts_line))]
 pub(crate) fn push_job_counts_line(
     text: &mut Vec<u8>,

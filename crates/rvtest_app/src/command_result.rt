@@ -15,7 +15,8 @@ pub(crate) struct CommandResult {
     pub(crate) status: u8,
 }
 
-/// Writes the text of a command's result to standard output, and returns its exit status.
+/// Writes the text of a command's result to standard output, and returns its exit status. If the command stopped, writes nothing, and
+/// returns its stop.
 pub(crate) fn write_command_result<O: Sink>(
     out: &mut O,
     outcome: Result<CommandResult, Stop>,

@@ -18,15 +18,15 @@ pub(crate) struct SyncedFile<'a, P: Drop, S: Drop> {
     file: S,
 }
 
-/// // The synced files of both outlets; `None` for an outlet that is not a file.
+// The synced report file and JUnit file; `None` for one that is not requested or goes to standard output.
 #[derive(Drop)]
 struct SyncedFiles<'a, P: Drop, S: Drop> {
     junit: Option<SyncedFile<'a, P, S>>,
     report: Option<SyncedFile<'a, P, S>>,
 }
 
-/// Syncs the files of both outlets to disk, and then moves both to their paths, the JUnit file first. If one of them cannot be synced,
-/// neither appears at its path.
+/// Syncs the report file and the JUnit file, if there are any, to disk, and then moves both to their paths, the JUnit file first. If one of
+/// them cannot be synced, neither appears at its path.
 pub(crate) fn commit_outlets<F: Outputs>(
     files: &mut F,
     alloc: Global,
@@ -46,7 +46,7 @@ pub(crate) fn commit_outlets<F: Outputs>(
     commit_both(files, alloc, junit, report)
 }
 
-// Syncs the files of both outlets to disk. If one of them cannot be synced, both are abandoned.
+// Syncs the report file and the JUnit file, if there are any, to disk. If one of them cannot be synced, both are abandoned.
 fn sync_outlets<'a, F: Outputs>(
     files: &mut F,
     alloc: Global,
@@ -81,7 +81,7 @@ fn sync_outlets<'a, F: Outputs>(
     }
 }
 
-// Syncs the file of an outlet to disk. Returns `None` if the outlet is not a file.
+// Syncs the file of an outlet to disk; if this fails, the file is abandoned. Returns `None` if the outlet is not a file.
 fn sync_outlet<'a, F: Outputs>(
     files: &mut F,
     alloc: Global,

@@ -68,7 +68,7 @@ fn run_named_job<D: Inputs>(
     run_job_of_text(inputs, alloc, args, text.as_slice())
 }
 
-// Runs the job with the requested name of the list with this text, and returns its row, its result line, and the exit status.
+// Runs the job with the requested name from the list with this text, and returns its row, its result line, and the exit status.
 fn run_job_of_text<D: Inputs>(
     inputs: &D,
     alloc: Global,

@@ -87,7 +87,7 @@ fn sum_of_paths<D: Inputs>(inputs: &D, alloc: Global, paths: &[&str]) -> Result<
     Ok(sum)
 }
 
-// Returns the sum of `before`, the sum of the earlier tables, and the table of counts at the path.
+// Adds the table of counts at the path to `before`, the sum of the earlier tables, and returns the new sum.
 fn sum_with_path<D: Inputs>(
     inputs: &D,
     alloc: Global,
@@ -156,7 +156,7 @@ pub(crate) fn sum_error_stop(alloc: Global, path: &str, error: SumError) -> Stop
     }
 }
 
-/// Returns the stop for an error in counting jobs with call stacks. The message names the path if counts cannot be added up.
+/// Returns the stop for an error in counting jobs with call stacks. If counts cannot be added up, the message names the path.
 pub(crate) fn count_error_stop(alloc: Global, path: &str, error: CountError) -> Stop
     ensures { IsCountErrorStop path.now error result }
 {

@@ -10,7 +10,8 @@ use rvtest_cli::RunArgs;
 use std::alloc::Global;
 use std::thread::{self, Threads};
 
-/// Returns the requested number of worker threads, each of which claims the requested number of jobs at once.
+/// Returns a crew with the requested number of worker threads, each of which takes the requested number of jobs at a time. Both numbers are
+/// clamped to their ranges.
 pub(crate) fn requested_crew<'r, R: Threads>(
     rt: &'r R,
     alloc: Global,
@@ -23,7 +24,8 @@ pub(crate) fn requested_crew<'r, R: Threads>(
     Crew::new(rt, alloc, requested_workers(rt, args), group)
 }
 
-// Returns the number of threads: the requested number, or by default the number of processors, but at least 1 and at most 64.
+// Returns the number of threads: the requested number, or by default the number of processors (1 if it is unknown), but at least 1 and at
+// most 64.
 fn requested_workers<R: Threads>(rt: &R, args: &RunArgs<'_>) -> u32
     ensures { AreRequestedWorkers args.now.workers result }
 {

@@ -1,5 +1,5 @@
-//! The verdicts on the jobs that `accept` runs: whether they pass with their expectations, and whether they differ from the jobs that they
-//! are compared with.
+//! The verdicts on the jobs that `accept` runs: whether they pass, compared with those of their golden files that must be read, and whether
+//! they differ from the jobs that they are compared with.
 
 ghost use Rattle.std.specs.Prelude.{◌≡◌, ◌++◌, ◌∷◌, [], IfOk, OnOk, option_map, slice_get};
 ghost use Rattle.std.specs.List.{list_any};
@@ -27,7 +27,7 @@ pub(crate) struct CurrentFiles<'x, D> {
     pub alloc: Global,
     /// The directory against which the paths of golden files are resolved.
     pub root: Option<&'x str>,
-    /// The row of each job of the list; `None` for a job that did not run.
+    /// The row of each job of the list; `None` for a job that was not selected to run.
     pub rows: &'x [Option<Row>],
 }
 
@@ -50,7 +50,7 @@ impl<'x, D: Inputs> CurrentFiles<'x, D> {
         Ok(candidates)
     }
 
-    // Returns whether the job at index `index` is chosen, and the current verdict on it; a job that did not run fails.
+    // Returns whether the job at index `index` is chosen, and the current verdict on it, which is `Fails` if the job has no row.
     fn candidate_at(
         &self,
         index: usize,
@@ -73,7 +73,8 @@ impl<'x, D: Inputs> CurrentFiles<'x, D> {
         }
     }
 
-    // Returns the verdict on a job with this row, compared with its golden files as they are now.
+    // Returns the verdict on a job with this row, compared with those of its golden files that must be read; an unread file counts as
+    // missing.
     fn current_verdict(&self, job: &Job, row: &Row) -> Result<CurrentVerdict, AllocError>
         ensures { IfOk result (IsCurrentVerdict (D.contents self.now.inputs.now) (optional_text self.now.root)
             self.now.rows.now job.now row.now) }
@@ -105,7 +106,7 @@ impl<'x, D: Inputs> CurrentFiles<'x, D> {
         Ok(verdict_by(did_run(row.ending), unmet.as_slice()))
     }
 
-    // Returns the row of the job that `same_as` names; `None` if it names none, or that job did not run.
+    // Returns the row of the job that `same_as` names; `None` if it names none, or if that job has no row.
     fn compared_row(&self, job: &Job) -> Option<&Row>
         ensures { option_map (λ row. row.now) result ≡ compared_row self.now.rows.now job.now.same_as }
     {
@@ -115,7 +116,7 @@ impl<'x, D: Inputs> CurrentFiles<'x, D> {
         }
     }
 
-    // Returns the row of the job at index `index`; `None` if the job did not run.
+    // Returns the row of the job at index `index`; `None` if the job has no row.
     fn row_at(&self, index: usize) -> Option<&Row>
         ensures { option_map (λ row. row.now) result ≡ row_or_none (slice_get self.now.rows.now index) }
     {
@@ -176,8 +177,8 @@ fn is_selected(selection: &[bool], index: usize) -> bool
     }
 }
 
-// Returns the path of a golden file if its contents matter for the verdict; `None` if the job ended as expected, since it is then accepted
-// whatever they are.
+// Returns the path of a golden file if the file must be read to decide whether the job is skipped. If the job ended as expected, it need
+// not be read: then returns `None`, and the verdict will not be `Passes`, even if the file matches.
 fn path_to_read<'a>(job: &Job, row: &Row, path: Option<&'a str>) -> Option<&'a str>
     ensures { option_map (λ path. path.now) result
         ≡ path_to_read job.now row.now (option_map (λ path. path.now) path.entry) }
@@ -209,7 +210,7 @@ fn slice_of_text(bytes: &Option<Vec<u8>>) -> Option<&[u8]>
     }
 }
 
-// Returns the row in an entry of the list of rows; `None` if the index was out of range or the job did not run.
+// Returns the row in an entry of the list of rows; `None` if the index was out of range or the job has no row.
 fn row_if_run(row: Option<&Option<Row>>) -> Option<&Row>
     ensures { option_map (λ row. row.now) result ≡ row_or_none (option_map (λ row. row.now) row.entry) }
 {

@@ -67,7 +67,7 @@ fn diff_of_files<D: Inputs>(
 }
 
 // Returns the differences between two reports, given the text of the old one and the result of reading the new one. If both have an error,
-// that of the old report is returned.
+// the error of the old report is returned.
 fn diff_report_texts(
     alloc: Global,
     args: DiffArgs<'_>,
@@ -145,8 +145,8 @@ fn diff_saved_reports(
     diff_rows(alloc, compare, compared)
 }
 
-// Returns the rows of both reports to compare: if one report is of a whole list and the other only of chosen jobs, the rows of the jobs
-// that both have; otherwise all rows.
+// Returns the rows of the two reports that are compared: if one report is of a whole list and the other only of chosen jobs, the rows of
+// the jobs that both have; otherwise all rows.
 fn compared_rows(
     alloc: Global,
     old: SavedReport,
@@ -171,7 +171,7 @@ fn compared_rows(
     Ok((old, new))
 }
 
-// Whether `part` is a report of chosen jobs only, and `other` of a whole list.
+// Whether `part` is the extent of a report of chosen jobs, and `other` that of a report of a whole list.
 fn is_partial_of_whole(part: &Extent, other: &Extent) -> bool
     ensures { result ≡ is_partial_of_whole part.now other.now }
 {

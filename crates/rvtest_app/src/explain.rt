@@ -39,7 +39,7 @@ pub(crate) fn explain_named_job<D: Inputs>(
     explain_job_of_text(inputs, alloc, args, text.as_slice())
 }
 
-// Runs the job with the requested name of the list with this text, and returns its explanation and the exit status.
+// Runs the job with the requested name from the list whose text is `text`, and returns its explanation and the exit status.
 fn explain_job_of_text<D: Inputs>(
     inputs: &D,
     alloc: Global,
@@ -55,7 +55,7 @@ fn explain_job_of_text<D: Inputs>(
     explain_job_at(inputs, alloc, args, jobs, index)
 }
 
-// Runs the job at index `index` of the list, and returns its explanation and the exit status. A requested budget replaces that of the job.
+// Runs the job at index `index` of the list, and returns its explanation and the exit status. A requested budget replaces the job's own.
 fn explain_job_at<D: Inputs>(
     inputs: &D,
     alloc: Global,

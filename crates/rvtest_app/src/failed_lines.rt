@@ -1,4 +1,4 @@
-//! The result lines of failed rows, with what a report contains of them.
+//! The result lines of failed rows, as far as a report contains them.
 
 ghost use Rattle.std.specs.Prelude.{◌≡◌, ◌++◌, OnOk};
 ghost use Rattle.rv_expect.specs.Judgement.{judge_view};
@@ -9,8 +9,8 @@ use rv_job_text::{EndDetail, push_result_line};
 use rv_rows::{Row, RowReporter};
 use std::alloc::{AllocError, Global};
 
-/// Reports the result line of each row that is a failure, without symbols and reasons, which a report does not contain, and nothing for
-/// other rows.
+/// Reports the result line of each row that is a failure, and nothing for other rows. The line has no symbol and no reason, as a report
+/// does not contain them.
 #[derive(Clone, Copy)]
 pub struct FailedLines<'a> {
     pub judge: Judge<'a>,
@@ -34,7 +34,7 @@ impl<'a> RowReporter for FailedLines<'a> {
     }
 }
 
-/// Appends the result line of a row that is a failure; nothing for any other row.
+/// Appends the result line of a row that is a failure, without symbol and reason; nothing for any other row.
 pub(crate) fn push_failed_line(
     alloc: Global,
     text: &mut Vec<u8>,

@@ -13,7 +13,7 @@ pub(crate) struct FileTexts<'s, 't, 'p, T> {
     pub(crate) reporter: &'t T,
     pub(crate) indices: &'p [usize],
     pub(crate) report: ReportText<'p>,
-    /// The lines about each row that were already made, by the index of the row.
+    /// The lines about each row, by the index of the row; `None` for a row whose lines were not made yet.
     pub(crate) texts: &'p [Option<Vec<u8>>],
     ghost index_per_row: { length (report_rows report) ≤ length indices.now },
 }

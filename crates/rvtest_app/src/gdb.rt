@@ -33,7 +33,7 @@ use std::alloc::{AllocError, Global};
 use std::io::Read;
 use std::thread::Threads;
 
-/// // A debugging session of a job's run, and the planned job.
+// A debugging session of a job's run, and the planned job.
 #[derive(Drop)]
 struct JobSession {
     session: Session,
@@ -93,7 +93,7 @@ fn limit_memory(alloc: Global, session: &mut Session, megabytes: Option<u32>)
     }
 }
 
-// Returns the error for a terminal as standard output, which shows how gdb starts the command.
+// Returns the error that standard output is a terminal; its message shows how gdb starts the command.
 fn no_gdb_stop(alloc: Global) -> Stop
     ensures { IsNoGdbStop result }
 {
@@ -129,7 +129,7 @@ fn session_of_named_job<D: Inputs>(
     session_of_text(inputs, alloc, args, text.as_slice())
 }
 
-// Opens a session for the job with the requested name of the list with this text.
+// Opens a session for the job with the requested name from the list with this text.
 fn session_of_text<D: Inputs>(
     inputs: &D,
     alloc: Global,

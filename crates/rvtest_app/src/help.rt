@@ -10,8 +10,8 @@ use rv_command::{DONE, Stop, write_results};
 use rv_files::Sink;
 use rvtest_cli::ArgsError;
 
-/// Responds to arguments that are no command: writes the help or the version to standard output if they request it, and returns status 0;
-/// otherwise returns the error in the arguments.
+/// Responds to arguments that are not a command: if they request the help or the version, writes it to standard output, and returns status
+/// 0; otherwise, returns the error in the arguments.
 pub(crate) fn respond_to_args_error<O: Sink>(out: &mut O, error: ArgsError) -> Result<u8, Stop>
     ensures exit_status { IfOk result (λ status. status ≡ 0) }
     ensures help_written { OnOk result (IsHelpWritten error (O.accepted out.old) (O.accepted out.new)) }

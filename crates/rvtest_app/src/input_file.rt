@@ -15,7 +15,7 @@ pub(crate) struct InputPath<'a> {
 /// How messages refer to a file that a command reads.
 #[derive(Clone, Copy)]
 pub(crate) enum InputRole<'a> {
-    /// A file that the arguments name, as a phrase such as `the job list` or `the file of --known`.
+    /// A file that the arguments name; messages use this phrase for it, such as `the job list` or `the file of --known`.
     Word(&'a str),
     /// The file that the key `key` of the job `job` names.
     JobFile { key: &'a str, job: &'a str },

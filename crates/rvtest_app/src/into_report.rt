@@ -40,7 +40,7 @@ impl<'a> IntoRows<'a> {
     }
 }
 
-// Replaces the rows of `all_rows` at these indices by `rows`: the first index by the first row, and so on.
+// Replaces the rows of `all_rows` at these indices: the row at the first index by the first of `rows`, and so on.
 fn replace_rows_at(all_rows: &mut Vec<Row>, indices: &[usize], rows: Vec<Row>)
     requires within { All (λ index. index < vec_len all_rows.old) indices.now }
     requires same_length { length indices.now ≡ vec_len rows }

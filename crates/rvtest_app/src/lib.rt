@@ -1,8 +1,9 @@
 //! The program `rvtest` as a library: it responds to arguments, given files to read and write, sinks, threads and a clock.
 //!
-//! [`run_rvtest`] returns the exit status: 0 if all is well, 1 if a job failed, 2 if the arguments, a list or a report are rejected, 3 if
-//! the system failed, and 141 if the reader of standard output closed it. What a command finds goes to standard output, and messages go to
-//! standard error. The definitions in `specs/` say what goes to each stream and file, given the arguments and the files that are read.
+//! [`run_rvtest`] returns the exit status: 0 if all is well, 1 if a job failed or differs, or if `accept` skipped or would change
+//! something, 2 if the arguments, a list or a report are rejected, 3 if the system failed, and 141 if the reader of standard output closed
+//! it. What a command finds goes to standard output, and messages go to standard error. The definitions in `specs/` say what goes to each
+//! stream and file, given the arguments and the files that are read.
 #![tactic(auto)]
 
 mod accept;

@@ -86,7 +86,8 @@ fn reject_merge_overwrites<F: Outputs>(
     reject_option_overwrite(files, alloc, "--junit", args.junit, &inputs)
 }
 
-// Returns the path for the merged report: the requested one, or else standard output, unless the JUnit XML is requested instead.
+// Returns the path for the merged report: the requested one, or else standard output; `None` if the JUnit XML goes to standard output
+// instead.
 fn merged_report_path<'a>(args: &MergeArgs<'a>) -> Option<&'a str>
     ensures { optional_text result ≡ merged_report_path (optional_text args.now.report)
         (optional_text args.now.junit) }
@@ -238,7 +239,7 @@ fn merge_error_stop(alloc: Global, args: &MergeArgs<'_>, texts: &[&[u8]], error:
     }
 }
 
-// Returns the message that no report is of the shard with this number.
+// Returns the message that there is no report of the shard with this number.
 fn missing_shard_message(alloc: Global, number: usize) -> Result<Vec<u8>, AllocError>
     ensures { IfOk result (λ text. text.items
         ≡ codes "rvtest: no part for shard " ++ decimal number ++ codes "\n") }

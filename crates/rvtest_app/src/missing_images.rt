@@ -13,8 +13,8 @@ use rv_rows::{Job, Plan};
 use std::alloc::{AllocError, Global};
 use std::io::ErrorKind;
 
-/// Returns the note of `run` that no image was found, if all jobs are run (`count` is their number) and the images of all are missing;
-/// otherwise an empty text.
+/// Returns the note of `run` and `accept` that no image was found: the images of all jobs of the list are missing, and all jobs are run.
+/// Otherwise, returns an empty text. `count` is the number of jobs that are run.
 pub(crate) fn missing_images_note(
     alloc: Global,
     plan: &Plan,

@@ -206,7 +206,7 @@ impl<'a, P: Drop, W: Sink + LastError + Drop> Outlet<'a, P, W> {
         matches!(self, Outlet::Stdout)
     }
 
-    /// Returns the reason of the last failed write to the file; without meaning if the outlet is not a file.
+    /// Returns the reason of the last failed write to the file; `Other` if the outlet is not a file.
     pub(crate) fn last_error(&self) -> ErrorKind {
         match self {
             Outlet::File(file) => file.sink.last_error(),

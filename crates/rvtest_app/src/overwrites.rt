@@ -135,7 +135,7 @@ fn overwrite_message<'a>(
     Ok(text)
 }
 
-// Returns the first half of that message: `option` with its path, and "would overwrite".
+// Returns the beginning of a message about an input that would be overwritten: `option` with its path, and "would overwrite".
 fn overwrite_prefix<'a>(
     alloc: Global,
     option: &'a str,
@@ -181,7 +181,7 @@ fn push_job_input_text<'a>(text: &mut Vec<u8>, key: &'a str, job: &'a str) -> Re
     )
 }
 
-// Appends the second half of that message: a colon and the path of the input in double quotes.
+// Appends the end of a message about an input that would be overwritten: a colon and the path of the input in double quotes.
 fn push_input_path(text: &mut Vec<u8>, path: &str) -> Result<(), AllocError>
     ensures { OnOk result (text.new.items ≡ text.old.items ++ input_path_text path.now) }
 {

@@ -14,7 +14,7 @@ use rv_job_text::{TextReporter, Verbosity};
 use rv_rows::{Machine, PartialRun, Plan, Row, row_at, row_from};
 use std::alloc::{AllocError, Global};
 
-/// The job at an index of a plan, which is not refused, and the paths that could not be read.
+/// A plan, the index of one of its jobs, which is not refused, and the paths that could not be read.
 #[derive(Drop)]
 pub(crate) struct PlannedJob {
     pub(crate) plan: Plan,

@@ -45,7 +45,7 @@ pub(crate) struct PlannedRun<'a> {
 }
 
 impl<'a> PlannedRun<'a> {
-    /// Returns the run of only the first `count` of its jobs.
+    /// Returns the run of only the first `count` jobs.
     pub(crate) fn first_jobs(&self, count: usize) -> PlannedRun<'a>
         requires { count ≤ length self.now.indices.now }
         ensures indices { result.indices.now ≡ take count self.now.indices.now }

@@ -15,7 +15,8 @@ use rv_rows::{Plan, refusal_at, row_at};
 use rvtest_cli::RunArgs;
 use std::alloc::{AllocError, Global};
 
-/// Returns the note about missing images, which can be empty, and then the result lines of those jobs at these indices that are refused.
+/// Returns the note about missing images, which can be empty, and then the result lines of the refused jobs among the jobs at these
+/// indices.
 pub(crate) fn refused_note(
     alloc: Global,
     args: &RunArgs<'_>,
@@ -38,7 +39,7 @@ pub(crate) fn refused_note(
     Ok(note)
 }
 
-// Appends the result lines of those jobs at these indices that are refused.
+// Appends the result lines of the refused jobs among the jobs at these indices.
 fn push_refused_lines(
     alloc: Global,
     reporter: &TextReporter<'_>,

@@ -15,7 +15,7 @@ pub(crate) struct ReportRowReporter {
 impl RowReporter for ReportRowReporter {
     ghost line = { λ reporter index row. report_row_text reporter.is_streaming index row };
 
-    // Appends the text of the row of the job at index `index` in a report, if rows are written early; otherwise nothing.
+    // Appends the text that a report has for the row of the job at index `index`, if rows are written early; otherwise nothing.
     fn push_row_text(
         &self,
         alloc: Global,

@@ -39,7 +39,7 @@ impl<'a> ReportText<'a> {
         }
     }
 
-    /// Writes the whole report. After an error, a prefix of it has been written.
+    /// Writes the report from its first line to its last. After an error, a prefix of it has been written.
     pub(crate) fn write<W: Sink>(self, alloc: Global, out: &mut W) -> Result<(), WriteError>
         ensures written { OnOk result
             (Appends (W.accepted out.old) (W.accepted out.new) (report_text_of self.entry)) }
@@ -56,8 +56,8 @@ impl<'a> ReportText<'a> {
         }
     }
 
-    /// Writes the rest of the report, to a file that received the rows of chosen jobs while they ran: the last line, or everything if rows
-    /// are not written early. After an error, a prefix of it has been written.
+    /// Writes the rest of the report to a file: only the last line if it is a report of chosen jobs, whose rows the file received while the
+    /// jobs ran; otherwise the whole report. After an error, a prefix of the rest has been written.
     pub(crate) fn write_rest<W: Sink>(self, alloc: Global, out: &mut W) -> Result<(), WriteError>
         ensures written { OnOk result
             (Appends (W.accepted out.old) (W.accepted out.new) (report_rest_of self.entry)) }

@@ -39,7 +39,7 @@ fn insert_by_steps<'a>(top_rows: &mut Vec<&'a Row>, row: &'a Row) -> Result<(), 
     Ok(())
 }
 
-// Returns the number of rows at the beginning of `top_rows` that have more steps than `steps`, up to the first row that does not.
+// Returns the number of rows at the beginning of `top_rows` that have more than `steps` steps, up to the first row that does not.
 fn rank_by_steps(top_rows: &[&Row], steps: u32) -> usize
     ensures rank { result ≡ prefix_len (λ row. nat_lt steps row.now.steps) top_rows.now }
     ensures within { result ≤ length top_rows.now }

@@ -20,7 +20,7 @@ pub(crate) fn failure_rule(is_lenient: bool) -> Rule
     }
 }
 
-/// Returns the judge for the rows of a report, with or without `--lenient`. No job is known to fail.
+/// Returns the judge for the rows of a report, with or without `--lenient`. No job counts as a known failure.
 pub(crate) fn report_judge<'a>(is_lenient: bool) -> Judge<'a>
     ensures { judge_view result ≡ report_judging is_lenient }
 {

@@ -110,7 +110,7 @@ where
 }
 
 impl<'x, R: Threads + Wait + Sync + Clock, D: Inputs> ListRun<'x, R, D> {
-    // Reads the files that the selected jobs need, runs these jobs, and writes the output. A requested budget replaces that of every job.
+    // Reads the files that the selected jobs need, runs these jobs, and writes the output. A requested budget replaces each job's own.
     fn run_selected_jobs<
         F: Outputs + Drop,
         O: Sink + Drop + Send,

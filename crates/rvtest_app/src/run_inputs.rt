@@ -15,7 +15,7 @@ use rvtest_cli::RunArgs;
 use std::alloc::{AllocError, Global};
 
 /// Returns an error if an output file of a run would overwrite an input: the list, the file of known failures, a file of any job of the
-/// list, or a report that the run reads. The report that `--into` names is updated, so overwriting it is no error.
+/// list, or a report that the run reads. The report that `--into` names is updated, so overwriting it is not an error.
 pub(crate) fn reject_run_overwrites<F: Outputs>(
     files: &F,
     alloc: Global,
@@ -49,7 +49,7 @@ fn reject_report_overwrites<F: Outputs>(
     reject_option_overwrite(files, alloc, "--counts", args.counts, &reports)
 }
 
-// Returns the files that a run must not write: its list, the file of known failures, and the files of all jobs.
+// Returns the files that a run must not overwrite: its list, the file of known failures, and the files of all jobs.
 fn inputs_of_run<'a>(
     alloc: Global,
     args: &RunArgs<'_>,

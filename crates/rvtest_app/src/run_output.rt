@@ -17,8 +17,9 @@ use rv_rows::WriteError;
 use rv_stream::{Batch, StreamError, StreamedRun};
 use std::alloc::{AllocError, Global};
 
-/// Returns the result of a run whose only observer sends its rows to the report: `ObserverStopped` if `sent`, the result of sending them,
-/// says that the report did not accept all.
+/// Combines the result `ran` of a run, whose only observer sends the rows to the report, with the result `sent` of sending them. Any error
+/// of the run except `ObserverStopped` is returned first. Then an error in `sent` is returned: as `OutOfMemory`, or as `ObserverStopped` if
+/// the report did not accept all rows.
 pub(crate) fn run_if_written(
     ran: Result<StreamedRun, StreamError>,
     sent: Result<(), WriteError>,

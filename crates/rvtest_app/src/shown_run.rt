@@ -53,7 +53,7 @@ pub(crate) struct ShownRun {
 
 impl<'x, R: Threads + Wait + Sync + Clock, D: Inputs> ListRun<'x, R, D> {
     /// Runs the jobs, and writes their lines to a stream and the progress to standard error. If a sink is given and the run updates no old
-    /// report, also writes each row to this sink as soon as it is available. Returns both sinks and the result.
+    /// report, also writes each row to this sink as soon as it is available. Returns the stream, the sink and the result.
     pub(crate) fn run_and_show<
         'm,
         K: StreamSpec + Send,

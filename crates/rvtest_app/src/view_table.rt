@@ -149,7 +149,8 @@ fn has_counts_for(view: View, table: &CountTable) -> bool
     }
 }
 
-// Returns the message that the table at `table_path` has counts of an image at `path` that differs from the one the selected jobs use.
+// Returns the message that the table at `table_path` has counts of an image at `path` that differs from the image that the selected jobs
+// use.
 fn other_image_message<'a>(
     alloc: Global,
     table_path: &'a str,

@@ -16,9 +16,9 @@ use std::alloc::{AllocError, Global};
 /// Why a report is not a report of all jobs of a list.
 #[derive(Clone, Copy)]
 pub(crate) enum NotWholeReason<'a> {
-    /// It is a partial report, with so many rows of a list with so many jobs.
+    /// It is a partial report: it has this number of rows, of a list with this number of jobs.
     Partial(usize, u32),
-    /// It has so many rows (first) but the list has so many jobs (second).
+    /// It has this number of rows (first), but the list has another number of jobs (second).
     RowCount(usize, usize),
     /// A row has a different name than the job of the list at the same index.
     Name(NameMismatch<'a>),
