@@ -33,7 +33,7 @@ pub fn path_message<'a>(
     )
 }
 
-/// Returns a message about a line or a job, with this number, of the file at the path: `label` is the text before the number, and `reason`
+/// Returns a message with a number, for example of a line, about the file at the path: `label` is the text before the number, and `reason`
 /// the text after it.
 pub fn path_number_message<'a>(
     alloc: Global,
@@ -56,7 +56,7 @@ pub fn path_number_message<'a>(
     )
 }
 
-/// Writes a message to standard error. If this fails, there is no further effect.
+/// Writes a message to standard error. A failed write is ignored.
 pub fn write_message<E: Sink>(errors: &mut E, text: &[u8])
     ensures { IsMessageWritten (E.accepted errors.old) (E.accepted errors.new)
         (E.failure_count errors.old) (E.failure_count errors.new) text.now }
