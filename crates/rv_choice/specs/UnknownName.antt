@@ -26,7 +26,7 @@ abbrev pub text_before_name : ℕ → ℕ → List ℕ
 text_before_name index count =
     if index == 0 then codes "\"; the jobs are \"" else if index + 1 == count then codes "\" and \"" else codes "\", \""
 
--- the names of jobs in a list with `count` names, from the one at an index on
+-- the names of these jobs, each after the text before it; the first job is at this index of a list with `count` names
 unfoldable pub names_from : ℕ → ℕ → List Job → List ℕ
 names_from index count [] = []
 names_from index count (job ∷ jobs) = (text_before_name index count ++ job.name) ++ names_from (index + 1) count jobs

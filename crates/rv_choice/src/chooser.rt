@@ -49,7 +49,7 @@ pub struct Choice {
 }
 
 impl Choice {
-    // Returns the choice with `note` put before its notes.
+    // Returns the choice with `note` before its other notes.
     fn with_leading_note(self, note: Vec<u8>) -> Result<Choice, AllocError>
         ensures selection { IfOk result (λ choice. choice.selection ≡ self.selection) }
         ensures notes { IfOk result (λ choice. choice.notes.items ≡ note.items ++ self.notes.items) }
@@ -231,8 +231,8 @@ impl<'x, D: Inputs> Chooser<'x, D> {
         self.choose_from_failed_names(path, failed.as_slice(), missing, pattern, jobs)
     }
 
-    // Returns the jobs that the pattern of `--match`, the names of `--only` or the names `failed` choose. These are the failed jobs of the
-    // report at `path`, in which `missing` jobs of the list have no row.
+    // Returns the jobs that the pattern of `--match`, the names of `--only` or the names `failed` choose. `failed` are the names of the
+    // failed jobs in the report at `path`, in which `missing` jobs of the list have no row.
     fn choose_from_failed_names(
         &self,
         path: &str,
