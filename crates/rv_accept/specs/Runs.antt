@@ -35,8 +35,8 @@ abbrev pub has_replaceable_expectation : Job → Bool
 has_replaceable_expectation job = is_some job.expect_exit || (is_some job.expect_end || (is_some job.expect_console
     || is_some job.expect_signature))
 
--- why a job is skipped whose result differs from the result of its `same_as` job: because of its end, if that is not accepted, and
--- otherwise because of the difference
+-- why a job is skipped whose result differs from the result of its `same_as` job: because of its end, if the job has an expectation that a
+-- run can replace and the end is not accepted; otherwise because of the difference
 abbrev pub differing_skip_reason : Acceptance → Job → RowEnd → SkipReason
 differing_skip_reason acceptance job end = if has_replaceable_expectation job && not (is_accepted_end acceptance job end) then reasons.End else reasons.Differs
 
