@@ -48,7 +48,7 @@ IsColoredAs colors.Plain before plain out = out ≡ plain
 IsColoredAs colors.Colored None plain out = ⊤
 IsColoredAs colors.Colored (Some before) plain out = HoldsForBoth (IsColored before) plain out
 
--- like `IsColoredAs`, but output with colors may end with a prefix of an escape sequence, in which a write failed
+-- like `IsColoredAs`, but output with colors may end with a prefix of an escape sequence, the rest of which was not written
 abbrev pub IsPartlyColoredAs : Colors → Option (List ℕ) → Option (List ℕ) → Option (List ℕ) → Type 0
 IsPartlyColoredAs colors.Plain before plain out = out ≡ plain
 IsPartlyColoredAs colors.Colored None plain out = ⊤
