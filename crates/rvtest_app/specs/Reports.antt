@@ -46,8 +46,8 @@ HasEntryPerUnreadable results unread = length unread ≡ after_increments 0 (unr
 
 -- ---- diff
 
--- what `diff` compares: with `--steps` (the Bool) the numbers of steps, else with `--slower` (a percentage) only jobs that got slower, else
--- the outcomes
+-- what `diff` compares: with `--steps` (the Bool) the outcomes, steps, and addresses and values of faults; else with `--slower` the
+-- outcomes, and whether the steps grew by more than this percentage; else the outcomes
 abbrev pub requested_comparison : Bool → Option ℕ → CompareMode
 requested_comparison true slower = Steps
 requested_comparison false (Some percent) = Slower percent

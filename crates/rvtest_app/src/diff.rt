@@ -181,7 +181,8 @@ fn is_partial_of_whole(part: &Extent, other: &Extent) -> bool
     }
 }
 
-// Returns what to compare: with `--steps` the numbers of steps, else with `--slower` only jobs that got slower, else the outcomes.
+// Returns what to compare: with `--steps` the outcomes, steps, and addresses and values of faults; else with `--slower` the outcomes, and
+// whether the steps grew by more than this percentage; else the outcomes.
 fn requested_comparison(steps: bool, slower: Option<u32>) -> CompareMode
     ensures { result ≡ requested_comparison steps slower }
 {
