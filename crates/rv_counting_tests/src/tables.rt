@@ -92,7 +92,7 @@ fn selected_indices_of(alloc: Global, plan: &Plan, choice: &str) -> Result<Vec<u
 {
     let selection = selection_of(alloc, choice)?;
     if selection.len() != plan.jobs() {
-        return Err("a mark for each job".into());
+        return Err("expected one letter for each job".into());
     }
     Ok(selected_indices(alloc, selection.as_slice())?)
 }
@@ -150,7 +150,7 @@ fn jobs_are_counted(rt: HostRuntime) -> Result<(), Fail> {
     Ok(())
 }
 
-// Returns a list of jobs of one image; every other job ends within the loop.
+// Returns a list of jobs that all run the image `loop`. The budget of every other job is used up inside the image's loop.
 fn list_of_one_image(alloc: Global) -> Result<String, AllocError> {
     let region = "[{ base = 0x80000000, size = 4096 }]";
     let mut list = String::new(alloc);
