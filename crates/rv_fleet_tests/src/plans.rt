@@ -10,8 +10,8 @@ use std::test::Fail;
 // The codes of the first and the last error in lists.
 const _: () = prove!(What::NotToml as u8 == 1 && What::Misaligned as u8 == 18);
 
-/// A store with the files `a`, `b` and `r` of one byte, the files `A`, `B` and `C` of many bytes, each of which is the name of the file,
-/// and a file `l` that is too long. It records the paths that are read.
+/// A store with the files `a`, `b` and `r` of one byte, the files `A`, `B` and `C` of many bytes, and a file `l` that is too long. Each
+/// byte of a file is the file's name. The store records the paths that are read.
 #[derive(Drop)]
 struct Files {
     log: String,
@@ -76,13 +76,13 @@ fn plan_of_selection(
     store: &mut Files,
 ) -> Result<Plan, Fail> {
     if selection.len() != jobs.as_slice().len() {
-        return Err("a mark for each job".into());
+        return Err("expected one letter for each job".into());
     }
     let indices = selected_indices(alloc, selection)?;
     Ok(gather_jobs(alloc, jobs, indices, store)?)
 }
 
-// Returns the plan for all jobs of a list (`all`), or for the jobs that `choice` selects with `x`.
+// Returns the plan for all jobs of a list if `choice` is `all`, and otherwise for the jobs that have an `x` in `choice`.
 fn plan_of(alloc: Global, list: &str, choice: &str, store: &mut Files) -> Result<Plan, Fail> {
     let jobs = read_jobs(alloc, list.as_bytes())?;
     if choice == "all" {
@@ -133,7 +133,7 @@ fn result_text(alloc: Global, plan: &Plan, store: &Files) -> Result<String, Allo
     Ok(text)
 }
 
-// Returns as text the plan for all jobs of a list (`all`), or for the jobs that `choice` selects with `x`.
+// Returns as text the plan for the jobs that `choice` selects, with the paths that were read and the number of failed reads.
 fn plan_text(alloc: Global, list: &str, choice: &str) -> Result<String, Fail> {
     let mut store = Files {
         log: String::new(alloc),

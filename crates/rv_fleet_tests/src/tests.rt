@@ -18,8 +18,8 @@ mod recent;
 mod streams;
 mod workers;
 
-// Returns a line that describes the sample image at a path: with a signature of 16,000 words for `most-words`, of one word more for
-// `more-words`, and for any other path an image that exits with code 5 after two steps.
+// Returns the description of the sample image at a path: an image with a signature of 16,000 words for `most-words`, one with 16,001 words
+// for `more-words`, and for any other path one that exits with code 5 after two steps.
 fn sample_of(path: &str) -> &'static str {
     match path {
         "most-words" => "sign 168=8000fa28",
@@ -97,7 +97,7 @@ fn number_in(line: &str, index: usize) -> u64 {
     cell_of(line, index).parse::<u64>().unwrap_or(0)
 }
 
-// Returns the number of workers, and how many jobs a worker claims at once, as given in a line.
+// Returns the number of workers, and how many jobs a worker takes at a time, as given in a line.
 fn workers_and_group_of(line: &str) -> (u32, u32)
     ensures workers { (0 < result.0) × (result.0 ≤ 64) }
     ensures group { (0 < result.1) × (result.1 ≤ 4096) }
@@ -116,7 +116,7 @@ fn plan_and_indices_of(alloc: Global, line: &str) -> Result<(Plan, Vec<usize>), 
     let indices = selected_indices(alloc, selection.as_slice())?;
     let plan = plan_of(alloc, cell_of(line, 1))?;
     if selection.len() != plan.jobs() {
-        return Err("a mark for each job".into());
+        return Err("expected one letter for each job".into());
     }
     Ok((plan, indices))
 }
@@ -151,7 +151,7 @@ fn result_text<R: Threads + Wait + Sync>(
     }
 }
 
-// Checks that a table has `count` lines, each with the result in its last cell.
+// Checks that a table has `count` lines, and that the result of each line is what its last cell says.
 fn check_table<R: Threads + Wait + Sync>(
     rt: &R,
     alloc: Global,

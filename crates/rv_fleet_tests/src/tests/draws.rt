@@ -61,7 +61,8 @@ fn push_responses(
     Ok(())
 }
 
-// Appends the answers of two passes to requests that are separated by spaces: `q` is the first letter of those to the second pass.
+// Appends the answers of two passes to requests that are separated by spaces. A request that begins with `q` goes to the second pass, any
+// other to the first.
 fn push_responses_of_both(
     text: &mut String,
     claims: &Claims,
@@ -84,8 +85,8 @@ fn push_responses_of_both(
     Ok(())
 }
 
-// Makes one pass of two, as `end` says: joins them (`join`), calls `meet`, which changes neither, and joins them (`meet, join`), or calls
-// `meet` and drops the second.
+// Turns two passes into one, as `end` says: `join` joins them; `meet, join` first calls `meet`, and then joins them; anything else calls
+// `meet` and drops the second pass.
 fn one_pass_of(claims: &Claims, first: Pass, second: Pass, end: &str) -> Pass
     requires first { first.draw ≡ claims.now }
     requires second { second.draw ≡ claims.now }
@@ -101,7 +102,8 @@ fn one_pass_of(claims: &Claims, first: Pass, second: Pass, end: &str) -> Pass
     first
 }
 
-// Splits a pass in two, appends the answers of both, and makes one pass of them, as `end` says.
+// Splits a pass in two, appends the answers of both, and turns them into one pass, as `end` says. Returns an error if no pass index is
+// free.
 fn split_and_merge(
     text: &mut String,
     claims: &Claims,
@@ -119,7 +121,7 @@ fn split_and_merge(
     Ok(one_pass_of(claims, first, second, end))
 }
 
-// Splits a pass and joins the two until all pass indices are used. Appends how often, and returns the pass.
+// Splits a pass and joins the two again until no pass index is left. Appends the number of splits, and returns the pass.
 fn fill(text: &mut String, claims: &Claims, mut pass: Pass) -> Result<Pass, AllocError>
     requires { pass.draw ≡ claims.now }
     ensures { IfOk result (λ pass. pass.draw ≡ claims.now) }
@@ -136,8 +138,8 @@ fn fill(text: &mut String, claims: &Claims, mut pass: Pass) -> Result<Pass, Allo
     Ok(pass)
 }
 
-// Changes a pass as the fifth cell of a line says: `alone` does nothing, `fill` splits and joins it until all pass indices are used, and
-// anything else splits it once.
+// Changes a pass as the fifth cell of a line says: `alone` does nothing, `fill` splits and joins it until no pass index is left, and
+// anything else splits it once and turns the two into one pass.
 fn handle_pass(text: &mut String, claims: &Claims, pass: Pass, line: &str) -> Result<Pass, Fail>
     requires { pass.draw ≡ claims.now }
     ensures { IfOk result (λ pass. pass.draw ≡ claims.now) }
@@ -175,18 +177,17 @@ pub(super) fn result_text(alloc: Global, line: &str) -> Result<String, Fail> {
 // like any other: the new one has an index of its own and no draws, and ends with its own draw. There are 64 pass indices; once they are
 // used, a split returns the pass.
 pub(super) const DRAWS: &str = "\
-two passes draw three pieces | 3 | | p q p p? q p | join | p? p | 0 1 2 false none none true none true
-no piece ends the first pass | 0 | p p? | | alone | | none true true
-a dropped pass is lacking at the end | 3 | | p | meet, drop | | 0 false
+two passes draw three chunks | 3 | | p q p p? q p | join | p? p | 0 1 2 false none none true none true
+without chunks the first draw ends the pass | 0 | p p? | | alone | | none true true
+a dropped pass is missing at the end | 3 | | p | meet, drop | | 0 false
 an ended pass is split | 1 | p p | p? q? q q? | meet, join | | 0 none true false none true true
 one of an ended pass is dropped | 1 | p p | p? q? q q? | meet, drop | | 0 none true false none true false
-places run out | 1 | p | | fill | p? p | 0 63 splits false none true";
+pass indices run out | 1 | p | | fill | p? p | 0 63 splits false none true";
 
 /// The number of chunks that the threads draw.
 const PIECES: u64 = 1000;
 
-/// Draws until no chunk is left, and returns the pass and the numbers drawn. Here and below, the result is `None` if memory ran out or all
-/// pass indices are used.
+/// Draws until no chunk is left, and returns the pass and the numbers drawn; `None` if memory ran out.
 fn draw_all(alloc: Global, claims: &Claims, mut pass: Pass) -> Option<(Pass, Vec<u64>)>
     requires { pass.draw ≡ claims.now }
     ensures { IfSome result (λ both. both.0.draw ≡ claims.now) }
@@ -203,7 +204,7 @@ fn draw_all(alloc: Global, claims: &Claims, mut pass: Pass) -> Option<(Pass, Vec
     Some((pass, numbers))
 }
 
-// Joins two passes, and returns the pass with the numbers that both drew.
+// Joins two passes, and returns the pass with the numbers that both drew; `None` if one of the two is `None` or memory ran out.
 fn both_drawn(
     claims: &Claims,
     one: Option<(Pass, Vec<u64>)>,
@@ -221,7 +222,8 @@ fn both_drawn(
     Some((claims.join(first, second), numbers))
 }
 
-/// Draws in two threads until no chunk is left, and returns the joined pass and the numbers drawn.
+/// Draws in two threads until no chunk is left, and returns the joined pass and the numbers drawn; `None` if memory ran out or no pass
+/// index is free.
 fn draw_all_in_two<R: Threads + Sync>(
     rt: &R,
     alloc: Global,
@@ -246,7 +248,8 @@ fn draw_all_in_two<R: Threads + Sync>(
     both_drawn(claims, one, other)
 }
 
-// Draws in four threads until no chunk is left, and returns the joined pass and the numbers drawn.
+// Draws in four threads until no chunk is left, and returns the joined pass and the numbers drawn; `None` if memory ran out or no pass
+// index is free.
 fn draw_all_in_four<R: Threads + Sync>(
     rt: &R,
     alloc: Global,

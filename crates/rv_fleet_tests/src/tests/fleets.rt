@@ -11,9 +11,9 @@ use std::sync::Wait;
 use std::test::Fail;
 use std::thread::Threads;
 
-// label | budgets | the selected jobs | workers | jobs claimed at once | `fleet` runs all jobs with a gate, `batch` the selected jobs
-// without one | how many of the first chunks wait at the gate | for how many chunks they wait | the rows, how often each chunk entered, and
-// whether one waited in vain
+// label | budgets | the selected jobs | workers | jobs that a worker takes at a time | `fleet` runs all jobs with a gate, `batch` the
+// selected jobs without one | how many of the first chunks wait at the gate | for how many chunks they wait | the rows, how often each
+// chunk entered, and whether one waited in vain
 pub(super) const RUNS: &str = "\
 the first waits for the second | 3 3 | xx | 2 | 1 | fleet | 1 | 2 | \
     j0 Exit(5) 2, j1 Exit(5) 2, entered 11, late false
@@ -25,7 +25,7 @@ each of four waits for all | 3 3 3 3 | xxxx | 4 | 1 | fleet | 4 | 4 | \
     j0 Exit(5) 2, j1 Exit(5) 2, j2 Exit(5) 2, j3 Exit(5) 2, entered 1111, late false
 a worker | 3 3 3 3 | xx.x | 1 | 1 | batch | | | j0 Exit(5) 2, j1 Exit(5) 2, j3 Exit(5) 2, entered 0, late false
 four | 3 3 3 3 | xx.x | 4 | 1 | batch | | | j0 Exit(5) 2, j1 Exit(5) 2, j3 Exit(5) 2, entered 0, late false
-pieces of two | 3 3 3 3 | xx.x | 64 | 2 | batch | | | j0 Exit(5) 2, j1 Exit(5) 2, j3 Exit(5) 2, entered 0, late false
+chunks of two jobs | 3 3 3 3 | xx.x | 64 | 2 | batch | | | j0 Exit(5) 2, j1 Exit(5) 2, j3 Exit(5) 2, entered 0, late false
 the last job | 3 3 3 3 | ...x | 1 | 4096 | batch | | | j3 Exit(5) 2, entered 0, late false
 none | 3 3 3 3 | .... | 4 | 1 | batch | | | entered 0, late false";
 

@@ -8,8 +8,8 @@ use std::thread;
 /// How often a chunk yields at the gate until it gives up waiting.
 const TURNS: u64 = 100_000_000;
 
-// What is added to the count when each of the first chunks enters: each chunk has a decimal digit of its own, the first chunk the last
-// digit.
+// What is added to the count when one of the first four chunks enters: each of them has a decimal digit of its own, and the first chunk has
+// the last digit.
 const DIGITS: [u64; 4] = [1, 10, 100, 1000];
 
 /// A gate that counts the entries of each of four chunks. The first `held` chunks wait until `awaited` chunks have entered; `late` is set

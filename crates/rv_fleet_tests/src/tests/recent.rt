@@ -13,7 +13,7 @@ fn words_of(alloc: Global, count: usize) -> Result<Words, AllocError> {
     Ok(Words::new(vec![in alloc; 0u32; count]?))
 }
 
-// Returns an outcome with so many bytes of console output or, after a `w`, so many words of signature.
+// Returns an outcome with this number of bytes of console output or, after a `w`, this number of words of signature.
 fn outcome_of(alloc: Global, size: &str) -> Result<Outcome, Fail> {
     let (size, signature) = match size.strip_prefix('w') {
         Some(count) => (0, Some(words_of(alloc, count.parse::<usize>()?)?)),
@@ -112,7 +112,7 @@ fn caches_preceding_outcome(alloc: Global, plan: &Plan, index: usize) -> Result<
 fn is_preceding_outcome_cached(alloc: Global, index: usize) -> Result<bool, Fail> {
     let plan = plan_in(alloc, COMPARED_JOBS)?;
     if plan.jobs() <= index {
-        return Err("an index of a job".into());
+        return Err("expected the index of a job".into());
     }
     caches_preceding_outcome(alloc, &plan, index)
 }

@@ -26,7 +26,7 @@ impl<'a> RowReporter for Names<'a> {
 
     ghost line = { λ _ _ row. if nat_lt row.steps 2 then [] else (row.name ++ (59 ∷ [])) };
 
-    // Appends the name of the row, as a line, if it has two or more steps.
+    // Appends the name of the row and a semicolon, if the row has two or more steps.
     fn push_row_text(
         &self,
         _alloc: Global,
@@ -122,34 +122,34 @@ impl<'a> Sink for RecordingSink<'a> {
     }
 }
 
-// label | budgets | the selected jobs | workers | jobs claimed at once | the output
+// label | budgets | the selected jobs | workers | jobs that a worker takes at a time | the output
 const STREAMS: &str = "\
 a worker | 3 3 1 3 | xx.x | 1 | 1 | j0;j1;j3;
 four | 3 3 1 3 | xx.x | 4 | 1 | j0;j1;j3;
-as many as there may be | 3 3 1 3 | xx.x | 64 | 1 | j0;j1;j3;
-four, of pieces of two | 3 3 1 3 | xx.x | 4 | 2 | j0;j1;j3;
-of one piece | 3 3 1 3 | xx.x | 4 | 4096 | j0;j1;j3;
-nothing told of the third | 3 3 1 3 | xxxx | 4 | 1 | j0;j1;j3;
+the maximum number of workers | 3 3 1 3 | xx.x | 64 | 1 | j0;j1;j3;
+four workers, chunks of two jobs | 3 3 1 3 | xx.x | 4 | 2 | j0;j1;j3;
+a single chunk | 3 3 1 3 | xx.x | 4 | 4096 | j0;j1;j3;
+no text for the third | 3 3 1 3 | xxxx | 4 | 1 | j0;j1;j3;
 of the first and the last | 1 3 1 | xxx | 64 | 1 | j1;
 of the only one | 1 | x | 4 | 1 |
 no job | 3 3 | .. | 4 | 1 |
 the last job | 3 3 1 3 | ...x | 4 | 1 | j3;
-one behind the other | 3 3 3 3 3 3 3 3 | xxxxxxxx | 4 | 1 | j0;j1;j2;j3;j4;j5;j6;j7;";
+one after the other | 3 3 3 3 3 3 3 3 | xxxxxxxx | 4 | 1 | j0;j1;j2;j3;j4;j5;j6;j7;";
 
-// label | budgets | the selected jobs | workers | jobs claimed at once | the write that fails, or 0 | the output; how many rows had been
-// reported before each write, and in all; and how the call ended
+// label | budgets | the selected jobs | workers | jobs that a worker takes at a time | the write that fails, or 0 | the output; how many
+// rows had been reported before each write, and in all; and how the call ended
 pub(super) const WRITES: &str = "\
 each text at once | 3 3 3 | xxx | 1 | 1 | 0 | j0;j1;j2; at 1 2 3 of 3: 3 rows
-pieces of two | 3 3 3 | xxx | 1 | 2 | 0 | j0;j1;j2; at 2 3 of 3: 3 rows
-one piece | 3 3 3 | xxx | 1 | 4096 | 0 | j0;j1;j2; at 3 of 3: 3 rows
-nothing told of the second | 3 1 3 | xxx | 1 | 1 | 0 | j0;j2; at 1 3 of 3: 3 rows
+chunks of two jobs | 3 3 3 | xxx | 1 | 2 | 0 | j0;j1;j2; at 2 3 of 3: 3 rows
+a single chunk | 3 3 3 | xxx | 1 | 4096 | 0 | j0;j1;j2; at 3 of 3: 3 rows
+no text for the second | 3 1 3 | xxx | 1 | 1 | 0 | j0;j2; at 1 3 of 3: 3 rows
 no job | 3 3 | .. | 1 | 1 | 1 | at of 0: 0 rows
 the first fails | 3 3 3 | xxx | 1 | 1 | 1 | at 1 of 1: write failed
-the second, and no job is run behind it | 3 3 3 3 | xxxx | 1 | 1 | 2 | j0; at 1 2 of 2: write failed
+the second, and no job is run after it | 3 3 3 3 | xxxx | 1 | 1 | 2 | j0; at 1 2 of 2: write failed
 the last | 3 3 | xx | 1 | 1 | 2 | j0; at 1 2 of 2: write failed
 the only one | 3 3 | xx | 1 | 2 | 1 | at 2 of 2: write failed";
 
-// Appends the output, the number of rows that were reported before each write, and the number of all rows.
+// Appends the output, the number of rows that were reported before each write, and the number of rows that were reported in all.
 fn push_out(text: &mut String, out: &RecordingSink<'_>) -> Result<(), AllocError> {
     let sent = std::str::from_utf8(out.bytes.as_slice()).unwrap_or("no text");
     let (notes, requested) = (out.notes.as_str(), out.requested.load(Ordering::SeqCst));
@@ -182,7 +182,8 @@ fn text_of(
     Ok(text)
 }
 
-// Returns the result of streaming the jobs of a line if each write accepts at most `max_bytes` bytes and number `fails_at` fails.
+// Returns the result of streaming the jobs of a line if each write accepts at most `max_bytes` bytes and the write number `fails_at` fails;
+// none fails if it is 0.
 fn result_text<R: Threads + Wait + Sync>(
     rt: &R,
     alloc: Global,

@@ -116,7 +116,7 @@ fn computed_pieces<R: Threads>(
     let (workers, group) = workers_and_group_of(line);
     let count = piece_count(plan, group);
     if count > 4096 {
-        return Err("at most 4,096 pieces".into());
+        return Err("expected at most 4,096 chunks".into());
     }
     let (claims, pass) = Claims::new(alloc, count)?;
     let (pass, pieces) = pieces_of_workers(rt, alloc, &claims, pass, plan, workers, group, gate)?;
@@ -129,7 +129,8 @@ fn computed_pieces<R: Threads>(
     })
 }
 
-// Appends the number and the rows of a chunk: the one at index `wanted_index` if one worker drew all chunks, else the one with this number.
+// Appends the number and the rows of a chunk: the one at index `wanted_index` if one worker drew all chunks (`alone`), else the one with
+// this number.
 fn push_piece(
     text: &mut String,
     pieces: &[Piece],
@@ -146,7 +147,7 @@ fn push_piece(
     Ok(())
 }
 
-// Appends the number of chunks, and the rows of each.
+// Appends the number of chunks, and the rows of each: in the order of drawing if one worker drew all (`alone`), else by number.
 fn push_pieces(text: &mut String, pieces: &[Piece], alone: bool) -> Result<(), AllocError> {
     let count = pieces.len();
     write!(text, "{count} pieces")?;
@@ -156,8 +157,8 @@ fn push_pieces(text: &mut String, pieces: &[Piece], alone: bool) -> Result<(), A
     Ok(())
 }
 
-// Returns as text the computed chunks, whether the pass has ended and holds every pass index, the order of one worker's chunks, and what
-// the gate recorded.
+// Returns as text the computed chunks, whether the pass has ended and holds every pass index, the order in which the chunks entered if one
+// worker drew all of them, and what the gate recorded.
 fn text_of(
     alloc: Global,
     computed: &ComputedPieces,
@@ -181,11 +182,11 @@ pub(super) fn result_text<R: Threads>(rt: &R, alloc: Global, line: &str) -> Resu
     text_of(alloc, &computed, workers_and_group_of(line).0 == 1, &gate)
 }
 
-// label | budgets | | workers, one or two | jobs claimed at once | | how many of the first chunks wait at the gate | for how many chunks
-// they wait | the chunks, whether the joined pass has ended and holds every pass index, in which order the chunks of one worker entered,
-// and what the gate recorded
+// label | budgets | | workers, one or two | jobs that a worker takes at a time | | how many of the first chunks wait at the gate | for how
+// many chunks they wait | the chunks, whether the joined pass has ended and holds every pass index, in which order the chunks of one worker
+// entered, and what the gate recorded
 pub(super) const WORKERS: &str = "\
 two workers | 3 3 3 3 | | 2 | 1 | | 1 | 2 | 4 pieces 0: j0 Exit(5) 2, 1: j1 Exit(5) 2, \
     2: j2 Exit(5) 2, 3: j3 Exit(5) 2, true true 0 entered 1111, late false
-two jobs a piece, and one in the last | 3 3 3 3 3 | | 1 | 2 | | | | 3 pieces 0: j0 Exit(5) 2, j1 Exit(5) 2, \
+two jobs per chunk, and one in the last | 3 3 3 3 3 | | 1 | 2 | | | | 3 pieces 0: j0 Exit(5) 2, j1 Exit(5) 2, \
     1: j2 Exit(5) 2, j3 Exit(5) 2, 2: j4 Exit(5) 2, true true 123 entered 111, late false";
