@@ -39,7 +39,7 @@ two calls of one function | 7 | 80000000 80000008 | 008000ef ffdff06f 00008067 |
 longjmp | 99 | 80000000 80000018 80000020 80000028 | \
     80001137 014000ef 00051463 014000ef X 00008313 00008067 ff010113 004000ef 80001137 00030093 00100513 00008067 | \
     0 80000000 1 7, 1 80000018 1 2, 1 80000020 1 2, 2 80000028 1 4
-call to where no memory is | 9 | 80000000 | 000000e7 | 0 80000000 1 1, 1 00000000 1 0
+call to an address without memory | 9 | 80000000 | 000000e7 | 0 80000000 1 1, 1 00000000 1 0
 load that faults | 9 | 80000000 | 00002283 | 0 80000000 1 1
 illegal code | 9 | 80000000 | 00000000 | 0 80000000 1 0
 switch by both links | 9 | 80000000 8000000c | 00c000ef X 000082e7 | \
@@ -56,7 +56,7 @@ fn machine_of(alloc: Global, program: &str) -> Result<Machine, Fail> {
     let mut bus = Bus::new(alloc, map, Vec::new(alloc), Misaligned::Fault)?;
     let bytes = numbers(alloc, program)?;
     if bytes.len() > 0x1000 || !bus.map().in_one(BASE, bytes.len() as u32) {
-        return Err("a place".into());
+        return Err("the code does not fit in memory".into());
     }
     bus.place(BASE, &bytes);
     Ok(Machine::new(alloc, bus, BASE, Isa::Imc)?)
@@ -74,14 +74,14 @@ fn file_of(alloc: Global, functions: &str) -> Result<Vec<u8>, Fail> {
         for (k, byte) in value.to_le_bytes().iter().enumerate() {
             match bytes.get_mut(at + k) {
                 Some(old) => *old = *byte,
-                None => return Err("a symbol".into()),
+                None => return Err("the file has no such symbol".into()),
             }
         }
     }
     Ok(bytes)
 }
 
-// Returns the nodes of the call tree of the run in a row, as the row writes them.
+// Returns the nodes of the call tree of the run in a row, in the form of the last column of `RUNS`.
 fn nodes_text(alloc: Global, row: &str) -> Result<String, Fail> {
     let bytes = file_of(alloc, cell_of(row, 2))?;
     let image = read_image(alloc, bytes.as_slice(), Isa::Imc)?;
