@@ -25,7 +25,7 @@ use Rattle.rvtest_app.specs.Runs.{IsPlanFor}
 
 -- ---- the file system
 
--- writing the files `written` turns the contents of files from `before` into `after`
+-- writing the files `written` turns the file contents `before` into the file contents `after`
 pub record IsStoreAfter (written : List CommittedFile) (before after : FileContents) : Type 0 where
   -- the file to which a path leads; with links, several paths lead to one file
   pub leads : List ℕ → List ℕ

@@ -131,7 +131,7 @@ IsCommandStop contents is_terminal (request.Profile args) stop = (stop ≡ stops
 abbrev pub AreInvalidArgs : List (List ℕ) → Type 0
 AreInvalidArgs args = (kind : WordsFault) × (IsAmong kind (args_error_kinds args) × (IsHelpRequested kind → ⊥))
 
--- why the program stopped: the arguments are misused, such as options that exclude each other, or memory ran out
+-- why the program stopped: options are misused (for example, two exclude each other), or memory ran out
 abbrev pub IsMisuseStop : List (List ℕ) → Stop → Type 0
 IsMisuseStop args stop =
     MatchOption (args_misuse args) (stop ≡ stops.OutOfMemory) (λ misuse. IsUsageStop (misuse_text misuse) stop)

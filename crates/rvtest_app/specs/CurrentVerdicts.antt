@@ -1,5 +1,5 @@
--- The verdicts on the jobs that `accept` runs: whether they pass, compared with those of their golden files that must be read, and whether
--- they differ from the jobs that they are compared with.
+-- The verdicts on the jobs that `accept` runs. A job is compared with its golden files, as far as they must be read, and with the job that
+-- its `same_as` names.
 use Rattle.std.specs.Prelude.{◌≡◌, ◌⊎◌, ◌≤◌, ◌<◌, ◌&&◌, ℕ, Bool, true, false, List, [], ◌∷◌, Option, Some, None, IfSome, IsSomeAnd, if◌then◌else◌, length, slice_get}
 use Rattle.std.specs.List.{list_any}
 use Rattle.rv_accept.specs.Ends.{is_accepted_end}
@@ -88,7 +88,7 @@ pub record IsCurrentVerdict (contents : Option FileContents) (root : Option (Lis
   pub signature_read : IsGoldenText contents root (path_to_read job row job.expect_signature) signature
   pub verdict_is : verdict ≡ verdict_of_comparison (comparison_with rows job row console signature)
 
--- `verdict` is the verdict on the job with this row; a job without a row did not run, so it fails
+-- `verdict` is the verdict on the job with this row; `Fails` if the job has no row, because it did not run
 abbrev pub IsCurrentVerdictIfRun : Option FileContents → Option (List ℕ) → List (Option Row) → Job → Option Row → CurrentVerdict → Type 0
 IsCurrentVerdictIfRun contents root rows job None verdict = verdict ≡ current.Fails
 IsCurrentVerdictIfRun contents root rows job (Some row) verdict = IsCurrentVerdict contents root rows job row verdict

@@ -66,7 +66,7 @@ pub record IsFirstNameMismatch (report_names listed_names : List (List ℕ)) (mi
   pub before : take index report_names ≡ take index listed_names
 
 -- why a report is not a report of all jobs of the list: it is partial, its number of rows differs from the number of jobs, or the name of a
--- row differs from that of its job
+-- row differs from the name of its job
 abbrev pub IsNotWholeBecause : List Job → SavedReport → NotWholeReason → Type 0
 IsNotWholeBecause jobs report (reason.Partial rows count) = (rows ≡ length report.rows)
     × (jobs_of_partial_report report.extent ≡ Some count)

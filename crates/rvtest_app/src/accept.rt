@@ -173,8 +173,8 @@ fn checked_jobs<R, D, F: Outputs + Drop, O: Sink + Drop, E: Sink + Drop>(
     Ok(selected)
 }
 
-// Returns the run of each job with the decision to accept or to skip it, which follows from the verdict on its row; `None` for a job that
-// did not run.
+// Returns the run of each job, with the decision to accept or to skip it, which follows from whether the job is chosen and from the verdict
+// on its row; `None` for a job that did not run.
 fn judge_rows<R, D: Inputs>(
     host: &Host<'_, R, D>,
     args: &AcceptArgs<'_>,

@@ -143,7 +143,8 @@ fn reject_list_overwrite<F: Outputs>(
     reject_file_overwrite(files, alloc, "the updated list", list_path, &reads.golden)
 }
 
-// Returns an error if writing one of the golden files would overwrite the list or an input, or if another path also leads to one of them.
+// Returns an error if writing one of these golden files would overwrite the list or an input, or if a different path of a golden file leads
+// to the same file.
 fn reject_golden_overwrites<F: Outputs>(
     files: &F,
     alloc: Global,
@@ -160,8 +161,8 @@ fn reject_golden_overwrites<F: Outputs>(
     Ok(())
 }
 
-// Returns an error if writing this golden file would overwrite the list or an input, or if the path of another golden file leads to it,
-// too.
+// Returns an error if writing this golden file would overwrite the list or an input, or if a different path of a golden file leads to the
+// same file.
 fn reject_golden_overwrite<F: Outputs>(
     files: &F,
     alloc: Global,
@@ -261,7 +262,7 @@ struct Bounds<'a> {
 }
 
 // Returns the warnings about golden files outside of the `--root` directory; without `--root`, outside of the directory that contains the
-// list.
+// list. Returns an error if there are such files and writing outside is not allowed.
 fn outside_notes<F: Outputs>(
     files: &F,
     alloc: Global,

@@ -176,8 +176,8 @@ pub(crate) fn write_accepted_files<F: Outputs>(
     }
 }
 
-/// Reads the golden files and, if it was written, the list back, and returns an error if one does not contain its new text: then two paths
-/// lead to one file. Golden files without a text on which all their jobs agree are not read.
+/// Reads back the golden files, and the list if it was written. Returns an error if a file does not contain its new text, for example
+/// because two paths lead to one file. Golden files without a text on which all their jobs agree are not read.
 pub(crate) fn check_written_files<D: Inputs>(
     inputs: &D,
     alloc: Global,

@@ -1,5 +1,5 @@
-//! The verdicts on the jobs that `accept` runs: whether they pass, compared with those of their golden files that must be read, and whether
-//! they differ from the jobs that they are compared with.
+//! The verdicts on the jobs that `accept` runs. A job is compared with its golden files, as far as they must be read, and with the job that
+//! its `same_as` names.
 
 ghost use Rattle.std.specs.Prelude.{◌≡◌, ◌++◌, ◌∷◌, [], IfOk, OnOk, option_map, slice_get};
 ghost use Rattle.std.specs.List.{list_any};
@@ -84,7 +84,7 @@ impl<'x, D: Inputs> CurrentFiles<'x, D> {
         self.verdict_with_golden_files(job, row, slice_of_text(&console), slice_of_text(&signature))
     }
 
-    // Returns the verdict on a job, given the contents of its golden files.
+    // Returns the verdict on a job with this row, given the contents of its golden files; `None` for a golden file that was not read.
     fn verdict_with_golden_files<'r>(
         &self,
         job: &'r Job,

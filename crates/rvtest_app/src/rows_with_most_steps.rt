@@ -23,7 +23,8 @@ pub(crate) fn rows_with_most_steps(alloc: Global, rows: &[Row]) -> Result<Vec<&R
     Ok(top_rows)
 }
 
-// Inserts a row after all rows that have more steps, unless it would be beyond the limit, and drops the last row if there are too many.
+// Inserts a row after all rows that have more steps, and drops the last row if there are then more than [`MAX_SHOWN`]. Changes nothing if
+// [`MAX_SHOWN`] rows have more steps.
 fn insert_by_steps<'a>(top_rows: &mut Vec<&'a Row>, row: &'a Row) -> Result<(), AllocError>
     requires { length top_rows.old.items ≤ MAX_SHOWN }
     ensures rows { OnOk result (map (λ row. row.now) top_rows.new.items

@@ -128,7 +128,8 @@ impl<'x, R: Threads + Wait + Sync + Clock, D: Inputs> ListRun<'x, R, D> {
         }
     }
 
-    // Writes the files of a run if it was shown completely, and otherwise abandons them.
+    // Writes the files of a run that was shown completely, and returns the exit status for its rows. If it was not shown completely,
+    // abandons the files, and returns the reason.
     fn finish_run<F: Outputs + Drop, O: Sink + Drop, E: Sink + Drop>(
         &self,
         planned: &PlannedRun<'_>,
