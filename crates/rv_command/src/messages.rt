@@ -64,7 +64,7 @@ pub fn write_message<E: Sink>(errors: &mut E, text: &[u8])
     let _ = put_all(errors, text);
 }
 
-/// Writes results to standard output. If a write fails, returns `WriteFailed`; a prefix of the results was written then.
+/// Writes results to standard output. If a write fails, returns `WriteFailed`; a prefix of the results has then been written.
 pub fn write_results<O: Sink>(out: &mut O, text: &[u8]) -> Result<(), Stop>
     ensures written { OnOk result (Appends (O.accepted out.old) (O.accepted out.new) text.now) }
     ensures no_failed_writes { OnOk result (O.failure_count out.new ≡ O.failure_count out.old) }
