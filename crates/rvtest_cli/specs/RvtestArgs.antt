@@ -118,7 +118,7 @@ pub record DiffOptions : Type 0 where
   pub partial : Bool
   -- whether to report different steps, fault locations and fault values, too
   pub steps : Bool
-  -- if set, jobs that take over this many percent more steps are reported, too
+  -- if set, jobs whose number of steps grew by more than this percentage are reported, too
   pub slower : Option ℕ
   pub color : Option Text
 
@@ -347,7 +347,8 @@ profile_request rows = option_and_then (λ list. option_map (profile_request_of 
 abbrev pub help_request : List Row → Option Words
 help_request rows = option_map help (first_of (codes "topic") rows)
 
--- the request of the subcommand `name` with these matches of `clap`, or `None` if an argument is missing or invalid
+-- the request of the subcommand `name` with these matches of `clap`, or `None` if an argument is missing or invalid, or if there is no such
+-- subcommand
 abbrev pub subcommand_request : Text → List Row → Option Words
 subcommand_request name rows = if bytes_eq name (codes "run") then rvtest_run_request rows
     else if bytes_eq name (codes "list") then list_request rows
@@ -365,7 +366,7 @@ subcommand_request name rows = if bytes_eq name (codes "run") then rvtest_run_re
     else if bytes_eq name (codes "help") then help_request rows
     else None
 
--- the request of the subcommand that `clap` matched, with its matches, or `None` if there is no subcommand, or an argument is missing or
+-- the request of the subcommand that `clap` matched, with its matches, or `None` if there is no subcommand, or if an argument is missing or
 -- invalid
 abbrev pub matched_request : Option (Text × List Row) → Option Words
 matched_request = option_and_then (λ found. subcommand_request found.0 found.1)

@@ -27,7 +27,7 @@ pub struct MergeArgs<'a> {
     pub lenient: bool,
 }
 
-/// Returns the request of `merge` with these values, or an error if options are misused.
+/// Returns the request of `merge` with these values, or an error if options are misused; never `None`.
 pub(crate) fn merge_request<'a>(
     alloc: Global,
     values: &ArgMatches<'a>,
@@ -41,7 +41,7 @@ pub(crate) fn merge_request<'a>(
     }
 }
 
-// Returns the request of `merge` with these values, in which no option is misused.
+// Returns the request of `merge` with these values, in which no option is misused; never `None`.
 fn valid_merge_request<'a>(
     alloc: Global,
     values: &ArgMatches<'a>,

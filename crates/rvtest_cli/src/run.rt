@@ -73,7 +73,8 @@ pub struct RunArgs<'a> {
     pub color: Option<&'a str>,
 }
 
-/// Returns the request of `run` with these values, or an error if options are misused.
+/// Returns the request of `run` with these values, or an error if options are misused; `None` if the list is missing or `--group` is
+/// invalid.
 pub(crate) fn rvtest_run_request<'a>(
     alloc: Global,
     values: &ArgMatches<'a>,
@@ -87,7 +88,7 @@ pub(crate) fn rvtest_run_request<'a>(
     }
 }
 
-// Returns the request of `run` with these values, in which no option is misused.
+// Returns the request of `run` with these values, in which no option is misused; `None` if the list is missing or `--group` is invalid.
 fn valid_run_request<'a>(
     alloc: Global,
     values: &ArgMatches<'a>,
