@@ -53,7 +53,7 @@ fn replace_rows_at(all_rows: &mut Vec<Row>, indices: &[usize], rows: Vec<Row>)
     }
 }
 
-/// Returns the path of the report to write: the path of `--into`, or else the path of `--report`.
+/// Returns the path of the report to write: the path of `--into`, or else the path of `--report`; `None` without these options.
 pub(crate) fn run_report_path<'a>(args: &RunArgs<'a>) -> Option<&'a str>
     ensures { optional_text result ≡ run_report_path args.now }
 {

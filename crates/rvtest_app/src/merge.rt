@@ -99,7 +99,8 @@ fn merged_report_path<'a>(args: &MergeArgs<'a>) -> Option<&'a str>
     }
 }
 
-// Merges the reports of the shards with these texts, and returns the rows of the list, the line of totals, and the exit status.
+// Merges the reports of the shards with these texts, and returns the rows of the list, the line of totals, and the exit status. It is an
+// error if they are not the reports of all shards of one run.
 fn merge_part_texts(alloc: Global, args: &MergeArgs<'_>, texts: &[Vec<u8>]) -> Result<Merged, Stop>
     ensures parts { IfOk result
         (λ merged. AreParts merged.rows (map (λ text. text.items) texts.now)) }
@@ -118,7 +119,8 @@ fn merge_part_texts(alloc: Global, args: &MergeArgs<'_>, texts: &[Vec<u8>]) -> R
     Ok(Merged { rows, line, status })
 }
 
-// Merges the reports of the shards with these texts, and returns the rows in list order.
+// Merges the reports of the shards with these texts, and returns the rows in list order. It is an error if they are not the reports of all
+// shards of one run.
 fn rows_of_part_texts(alloc: Global, args: &MergeArgs<'_>, texts: &[Vec<u8>]) -> Result<Rows, Stop>
     ensures parts { IfOk result (λ rows. AreParts rows (map (λ text. text.items) texts.now)) }
     ensures at_most_max { IfOk result (λ rows. length rows ≤ max_jobs) }

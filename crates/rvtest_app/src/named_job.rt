@@ -18,7 +18,8 @@ pub(crate) struct NamedJob {
     pub(crate) index: usize,
 }
 
-/// Parses the text of a list, and returns its jobs and the index of the first job with this name. `list_path` is the path of the list.
+/// Parses the text of a list, and returns its jobs and the index of the first job with this name. It is an error if no job has this name.
+/// `list_path` is the path of the list.
 pub(crate) fn find_named_job(
     alloc: Global,
     list_path: &str,
