@@ -102,8 +102,8 @@ abbrev pub job_list_message : ResultKind → List ℕ → List ℕ
 job_list_message kind path =
     codes "rvtest: " ++ printable_text path ++ codes ": this is a job list, not " ++ kind_text kind ++ codes "\n"
 
--- the message that the file at a path is not of the expected kind: that it is a job list, if it is one, or else that the line with this
--- number is invalid
+-- the message that the file at a path is not of the expected kind: that it is a job list, or, if it is none, that the line with this number
+-- is invalid
 abbrev pub invalid_line_message : ResultKind → List ℕ → List ℕ → ℕ → List ℕ
 invalid_line_message kind path text number =
     if is_job_list text then job_list_message kind path else line_message kind path text number

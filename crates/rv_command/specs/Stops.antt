@@ -159,7 +159,8 @@ IsReportReadStop contents path stop = IsResultUnreadStop contents path stop
 
 -- ---- reports that can be truncated
 
--- the stop reports the first invalid line of the bytes, or memory ran out; the start of a report has no invalid line
+-- the stop reports the first invalid line of the bytes, or memory ran out; only the latter is possible if the bytes are the start of a
+-- report
 pub record IsPartialFaultStop (path bytes : List ℕ) (stop : Stop) : Type 0 where
   pub reported : (stop ≡ stops.OutOfMemory)
       ⊎ ((line : ℕ) × IsFirstInvalidLine line bytes × IsLineStop path bytes line stop)

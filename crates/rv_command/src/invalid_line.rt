@@ -19,7 +19,7 @@ pub enum ResultKind {
     Part,
 }
 
-/// Returns the message that the file at a path is not of the expected kind. It says that the file is a job list, if it is one, or else
+/// Returns the message that the file at a path is not of the expected kind. If the file is a job list, the message says so. Otherwise it
 /// shows the invalid line with this number and what was expected instead.
 pub fn invalid_line_message<'a>(
     alloc: Global,
