@@ -12,7 +12,7 @@ use Rattle.rv_expect.specs.declared_job.Job.{Job}
 use Rattle.rv_command.specs.Printable.{printable_text, printable_value}
 use Rattle.rv_choice.specs.Choice.{has_job_named}
 
--- the first of these names that is not the name of a job, or `None` if all are
+-- the first of these names that is not the name of a job, or `None` if each is the name of a job
 abbrev pub unknown_name : List Job → List (Bor (List ℕ)) → Option (List ℕ)
 unknown_name jobs names = option_map (λ name. name.now) (find (λ name. not (has_job_named jobs name.now)) names)
 

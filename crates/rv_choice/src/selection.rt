@@ -131,7 +131,7 @@ fn choice_by_pattern(matcher: &mut Option<Matcher<'_>>, name: &str) -> Option<bo
     }
 }
 
-/// Returns the first of these names that is not the name of a job, or `None` if all are.
+/// Returns the first of these names that is not the name of a job, or `None` if each is the name of a job.
 pub(crate) fn first_unknown_name<'a>(jobs: &[Job], names: &[&'a str]) -> Option<&'a str>
     ensures { option_map (λ name. name.now) result ≡ unknown_name jobs.now names.now }
 {
