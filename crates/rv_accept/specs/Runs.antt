@@ -20,8 +20,8 @@ use Rattle.rv_accept.specs.declared.values.ValueKey.TheVariants as key
 abbrev pub end_skip_reason : Acceptance → Job → RowEnd → Option SkipReason
 end_skip_reason acceptance job end = if is_accepted_end acceptance job end then None else Some reasons.End
 
--- why a job is skipped because of its console, or `None`: the expected text in the list would change, and the actual console output is not
--- UTF-8
+-- the reason why a job is skipped because of its console: the expected text in the list would change, and the actual console output is not
+-- UTF-8; `None` if this is not the case
 abbrev pub text_skip_reason : Job → Row → Option SkipReason
 text_skip_reason job row =
     if is_value_changed key.Console job row && not (is_utf8 row.console) then Some reasons.NotUtf8 else None

@@ -5,7 +5,8 @@
 pub enum CurrentVerdict {
     /// It passes.
     Passes,
-    /// It fails, or it ended as expected and has a golden file, which was not read. It has the result of its `same_as` job, if it has one.
+    /// It fails, or it ended as expected and names a golden file, which was therefore not read. If it has a `same_as` job, their results
+    /// are equal.
     Fails,
     /// Its result differs from the result of its `same_as` job.
     Differs,
