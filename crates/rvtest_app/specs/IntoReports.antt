@@ -63,7 +63,7 @@ abbrev pub run_report_rest : Option (List Row) → ℕ → List ℕ → Option S
 run_report_rest (Some old_rows) jobs indices shard rows = report_text (merged_rows indices rows old_rows)
 run_report_rest None jobs indices shard rows = chosen_last_line jobs indices shard rows
 
--- the path of the report to write: the path of `--into`, or else the path of `--report`
+-- the path of the report to write: the path of `--into`, or else the path of `--report`; `None` without these options
 abbrev pub run_report_path : RunArgs → Option (List ℕ)
 run_report_path args = option_or (optional_text args.into) (optional_text args.report)
 

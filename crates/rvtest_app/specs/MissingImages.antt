@@ -33,8 +33,8 @@ abbrev pub no_image_found_text : Option (List ℕ) → List ℕ
 no_image_found_text None = codes "no image was found: relative paths are resolved against the current directory; use --root DIR to resolve them against DIR"
 no_image_found_text (Some root) = codes "no image was found: relative paths are resolved against " ++ printable_text root ++ codes " (--root)"
 
--- the note of `run` and `accept` that no image was found, if the images of all jobs are missing and all jobs are run; otherwise empty.
--- `count` is the number of jobs that are run
+-- the note of `run` and `accept` that no image was found, if all jobs of the list are run and their images are all missing; otherwise
+-- empty. `count` is the number of jobs that are run.
 abbrev pub missing_images_note : List Job → List UnreadablePath → ℕ → Option (List ℕ) → List ℕ
 missing_images_note jobs unread count root =
     if count == length jobs && are_images_missing jobs unread then codes "rvtest: note: " ++ line (no_image_found_text root) else []

@@ -13,8 +13,8 @@ use rv_rows::{Job, Plan};
 use std::alloc::{AllocError, Global};
 use std::io::ErrorKind;
 
-/// Returns the note of `run` and `accept` that no image was found: the images of all jobs of the list are missing, and all jobs are run.
-/// Otherwise, returns an empty text. `count` is the number of jobs that are run.
+/// Returns the note of `run` and `accept` that no image was found, if all jobs of the list are run and their images are all missing;
+/// otherwise an empty text. `count` is the number of jobs that are run.
 pub(crate) fn missing_images_note(
     alloc: Global,
     plan: &Plan,
@@ -33,7 +33,7 @@ pub(crate) fn missing_images_note(
     Ok(note)
 }
 
-/// Appends the line of `check` that no image was found if the images of all jobs are missing, and otherwise nothing.
+/// If the images of all jobs are missing, appends the line of `check` that no image was found; otherwise appends nothing.
 pub(crate) fn push_missing_images_line(
     text: &mut Vec<u8>,
     plan: &Plan,

@@ -53,7 +53,7 @@ fn write_text_at<F: Outputs + Drop, O: Sink + Drop, E: Sink + Drop>(
     }
 }
 
-/// Writes a file: it is at its path only when it is complete, and after an error an old file at the path is unchanged.
+/// Writes a file. The file appears at its path only once it is complete; after an error, an old file at the path is unchanged.
 pub(crate) fn write_file<F: Outputs>(
     files: &mut F,
     alloc: Global,
