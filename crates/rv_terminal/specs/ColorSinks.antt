@@ -63,7 +63,7 @@ pub record ColorSinkView (S : Type 0) : Type 0 where
   pub state : OutputState
 
 -- the results that were written, without colors; `before` is what the underlying sink had accepted before, and the last argument what it
--- has accepted now
+-- has accepted now; `None` if this is not known
 abbrev pub results_of : Colors → Option (List ℕ) → Option (List ℕ) → Option (List ℕ)
 results_of colors.Plain before out = out
 results_of colors.Colored None out = None
