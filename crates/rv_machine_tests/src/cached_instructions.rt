@@ -137,7 +137,7 @@ fn check_line(alloc: Global, line: &str) -> Result<(), Fail> {
     check_dialogue(alloc, &mut machine, line)
 }
 
-// A machine caches the instructions that it executes, until FENCE.I after a store over them.
+// A machine caches the instructions that it executes, and FENCE.I drops those that were overwritten.
 #[test]
 fn machines_cache_instructions(rt: HostRuntime) -> Result<(), Fail> {
     check_line_count(DIALOGUES, 7)?;
