@@ -147,7 +147,8 @@ abbrev pub IsAcceptSummaryOf : ListFile → List (Option JobRun) → List Golden
 IsAcceptSummaryOf list runs golden_texts files new summary = (summary.list ≡ list) × (summary.runs.now ≡ runs) × (summary.golden_texts.now ≡ golden_texts)
     × (summary.files.now ≡ files) × (summary.new.now ≡ new)
 
--- the summary of this list, these runs, golden texts and golden files, and this new list was written; with `check`, no file was written
+-- the summary that consists of this list, these runs, golden texts and golden files, and this new list was written; if `check` is true, no
+-- file was written
 pub record AreChangesWritten (check : Bool) (list : ListFile) (runs : List (Option JobRun)) (golden_texts : List GoldenText)
     (files : List GoldenFile) (new : NewList) (status : ℕ) (before after : CommandOutputs) : Type 0 where
   pub summary : AcceptSummary

@@ -76,7 +76,7 @@ IsGdbStop contents is_terminal args stop = IsSessionNotStartedStop contents is_t
     ⊎ ((is_terminal ≡ false) × ((error : SessionError) × IsSessionErrorStop error stop))
 
 -- `gdb` stopped: either no session was started and nothing was written, or the session ended with an error; the number of failed writes
--- grows by one if the error is a failed write, and otherwise stays
+-- grows by one if the error is a failed write, and otherwise stays the same
 abbrev pub IsGdbStopped : Option FileContents → Bool → GdbArgs → Stop → CommandOutputs → CommandOutputs → ℕ → ℕ → Type 0
 IsGdbStopped contents is_terminal args stop before after failures_before failures_after =
     (IsSessionNotStartedStop contents is_terminal args stop × (after ≡ before))

@@ -78,8 +78,8 @@ comparison_with rows job row console signature = record {
   other = compared_row rows job.same_as;
 }
 
--- `verdict` is the verdict on the job with this row, compared with the rows of all jobs and with those of its golden files that must be
--- read; a file that was not read counts as missing
+-- `verdict` is the verdict on the job with this row. The row is compared with those golden files of the job that must be read, and with the
+-- row of its `same_as` job; a golden file that was not read counts as missing.
 pub record IsCurrentVerdict (contents : Option FileContents) (root : Option (List ℕ)) (rows : List (Option Row)) (job : Job) (row : Row)
     (verdict : CurrentVerdict) : Type 0 where
   pub console : Option (List ℕ)

@@ -137,6 +137,6 @@ IsSessionErrorStop (session_error.ReadFailed reason) stop = IsSystemStop (codes 
 IsSessionErrorStop session_error.ReplyWriteFailed stop = stop ≡ stops.WriteFailed
 
 -- how the number of failed writes changes with this error of the session: it grows by one if the error is a failed write, and otherwise
--- stays
+-- stays the same
 abbrev pub IsFailureCounted : SessionError → ℕ → ℕ → Type 0
 IsFailureCounted error before after = (error ≡ session_error.ReplyWriteFailed → after ≡ one_more before) × (error ≢ session_error.ReplyWriteFailed → after ≡ before)

@@ -25,7 +25,7 @@ use Rattle.rvtest_app.specs.declared.whole_report.NameMismatch.{NameMismatch}
 abbrev pub expected_whole_report : List ℕ
 expected_whole_report = codes ": --into expects a report of the whole list\n"
 
--- the message for a report at the path that is partial, with `rows` rows of a list with `jobs` jobs
+-- the message that the report at the path is a partial one, with `rows` rows of a list with `jobs` jobs
 abbrev pub partial_report_message : List ℕ → ℕ → ℕ → List ℕ
 partial_report_message path rows jobs = codes "rvtest: " ++ printable_text path ++ codes ": a partial report (" ++ decimal rows
     ++ codes " of " ++ count_text jobs (codes "job") ++ codes ")" ++ expected_whole_report

@@ -39,6 +39,6 @@ abbrev pub missing_images_note : List Job → List UnreadablePath → ℕ → Op
 missing_images_note jobs unread count root =
     if count == length jobs && are_images_missing jobs unread then codes "rvtest: note: " ++ line (no_image_found_text root) else []
 
--- the line of `check` that no image was found if the images of all jobs are missing; otherwise empty
+-- if the images of all jobs are missing, the line of `check` that no image was found; otherwise empty
 abbrev pub missing_images_line : List Job → List UnreadablePath → Option (List ℕ) → List ℕ
 missing_images_line jobs unread root = if are_images_missing jobs unread then line (no_image_found_text root) else []

@@ -42,7 +42,7 @@ unreadable_args_message _ = codes "rvtest: an argument is not valid UTF-8\n"
 abbrev pub IsHelpRequested : WordsFault → Type 0
 IsHelpRequested fault = (fault ≡ args_error.DisplayHelp) ⊎ (fault ≡ args_error.DisplayVersion)
 
--- why a command stopped: memory ran out, or the help could not be written, which is one more failed write
+-- why a command stopped: memory ran out, or the help could not be written, which counts as one more failed write
 abbrev pub IsHelpStop : ℕ → ℕ → Stop → Type 0
 IsHelpStop failures_before failures_after stop = (stop ≡ stops.OutOfMemory)
     ⊎ ((stop ≡ stops.WriteFailed) × (failures_after ≡ one_more failures_before))

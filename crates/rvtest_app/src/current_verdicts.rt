@@ -73,8 +73,8 @@ impl<'x, D: Inputs> CurrentFiles<'x, D> {
         }
     }
 
-    // Returns the verdict on a job with this row, compared with those of its golden files that must be read; an unread file counts as
-    // missing.
+    // Returns the verdict on a job with this row. Reads those of its golden files that must be read; a golden file that is not read counts
+    // as missing.
     fn current_verdict(&self, job: &Job, row: &Row) -> Result<CurrentVerdict, AllocError>
         ensures { IfOk result (IsCurrentVerdict (D.contents self.now.inputs.now) (optional_text self.now.root)
             self.now.rows.now job.now row.now) }
@@ -210,7 +210,7 @@ fn slice_of_text(bytes: &Option<Vec<u8>>) -> Option<&[u8]>
     }
 }
 
-// Returns the row in an entry of the list of rows; `None` if the index was out of range or the job has no row.
+// Returns the row in an entry of the list of rows; `None` if there is no entry or it has no row.
 fn row_if_run(row: Option<&Option<Row>>) -> Option<&Row>
     ensures { option_map (λ row. row.now) result ≡ row_or_none (option_map (λ row. row.now) row.entry) }
 {
