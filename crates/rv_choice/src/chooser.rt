@@ -140,7 +140,7 @@ impl<'x, D: Inputs> Chooser<'x, D> {
     }
 
     // Returns the selection without the jobs whose names the pattern matches, or unchanged if there is no pattern or no selection. It is an
-    // error if this leaves no job.
+    // error if jobs are selected and the pattern leaves none.
     fn without_excluded(
         &self,
         excluded: Option<&Regex>,
@@ -164,7 +164,8 @@ impl<'x, D: Inputs> Chooser<'x, D> {
         Ok(Some(remaining))
     }
 
-    // Returns the selection without the jobs whose names the pattern matches. It is an error if this leaves no job.
+    // Returns the selection without the jobs whose names the pattern matches. It is an error if jobs are selected and the pattern leaves
+    // none.
     fn remaining_selection(
         &self,
         selection: &[bool],
