@@ -147,7 +147,8 @@ fn push_piece(
     Ok(())
 }
 
-// Appends the number of chunks, and the rows of each: in the order of drawing if one worker drew all (`alone`), else by number.
+// Appends the number of chunks, and their rows. The chunks are in the order in which they were drawn if one worker drew all (`alone`), and
+// otherwise in the order of their numbers.
 fn push_pieces(text: &mut String, pieces: &[Piece], alone: bool) -> Result<(), AllocError> {
     let count = pieces.len();
     write!(text, "{count} pieces")?;
