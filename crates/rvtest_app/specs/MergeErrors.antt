@@ -26,7 +26,7 @@ abbrev pub two_parts_message : List ℕ → List ℕ → List ℕ → List ℕ �
 two_parts_message path flaw_text other_path end =
     codes "rvtest: " ++ printable_text path ++ codes ": " ++ flaw_text ++ printable_text other_path ++ end
 
--- the message that the report at `path` belongs to another run than the first report; `difference` says how they differ
+-- the message that the report at `path` is from a different run than the first report; `difference` says how they differ
 abbrev pub other_run_message : List (Bor (List ℕ)) → List ℕ → List ℕ → List ℕ
 other_run_message parts path difference = two_parts_message path difference (part_path parts 0) (codes "\"\n")
 

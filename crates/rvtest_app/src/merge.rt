@@ -340,7 +340,7 @@ fn part_flaw_message(
     }
 }
 
-// Returns the message that the report at `path` belongs to another run than the first report; `difference` says how they differ.
+// Returns the message that the report at `path` is from a different run than the first report; `difference` says how they differ.
 fn other_run_message(
     alloc: Global,
     args: &MergeArgs<'_>,
