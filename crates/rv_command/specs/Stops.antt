@@ -159,8 +159,7 @@ IsReportReadStop contents path stop = IsResultUnreadStop contents path stop
 
 -- ---- reports that can be truncated
 
--- the stop reports the first invalid line of the bytes, or memory ran out; only the latter is possible if the bytes are the start of a
--- report
+-- the stop reports the first invalid line of the bytes, or memory ran out; for the start of a report, it can only be that memory ran out
 pub record IsPartialFaultStop (path bytes : List ℕ) (stop : Stop) : Type 0 where
   pub reported : (stop ≡ stops.OutOfMemory)
       ⊎ ((line : ℕ) × IsFirstInvalidLine line bytes × IsLineStop path bytes line stop)
