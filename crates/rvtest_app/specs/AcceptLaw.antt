@@ -38,7 +38,8 @@ pub record IsStoreAfter (written : List CommittedFile) (before after : FileConte
   -- each path leads to a written file or keeps its contents
   pub others : (path : List ℕ) → (after path ≡ before path) ⊎ Any (λ file. leads file.path ≡ leads path) written
 
--- golden files whose paths lead to one file, as `leads` says, all get the same text
+-- golden files whose paths lead to one file, as `leads` says, have the same outcome: they get the same text, or are skipped for the same
+-- reason
 abbrev pub HaveOneTextPerFile : (List ℕ → List ℕ) → List GoldenFile → Type 0
 HaveOneTextPerFile leads files = All (λ (file : GoldenFile). All (λ (other : GoldenFile).
     leads file.resolved_path ≡ leads other.resolved_path → file.target.outcome ≡ other.target.outcome) files) files

@@ -20,7 +20,7 @@ abbrev pub junit_of_report : {T : Type 0} → (T → ℕ → Row → List ℕ) �
 junit_of_report line texts = junit_text texts.suite.name.now (judge_view texts.suite.judge)
     (row_texts (line texts.reporter.now) texts.indices.now (report_rows texts.report)) (report_rows texts.report)
 
--- the text `shown` was written to standard error if `to_stderr` is true, else to standard output; then the report and the JUnit XML were
+-- the text `shown` was written to standard error if `to_stderr` is true, else to standard output; then the JUnit XML and the report were
 -- written to their paths
 pub record IsOutputWrittenTo (to_stderr : Bool) (report_path junit_path : Option (List ℕ)) (shown report junit : List ℕ)
     (before after : CommandOutputs) : Type 0 where
@@ -30,7 +30,7 @@ pub record IsOutputWrittenTo (to_stderr : Bool) (report_path junit_path : Option
   pub errors_unchanged : (after.errors ≡ between.errors) × (after.failures ≡ between.failures)
   pub committed : AreFilesCommitted between.committed after.committed (Some (file_at junit_path junit ++ file_at report_path report))
 
--- the text `shown` was written to standard error if one of the paths is `-`, else to standard output; then the report and the JUnit XML
+-- the text `shown` was written to standard error if one of the paths is `-`, else to standard output; then the JUnit XML and the report
 -- were written to their paths
 abbrev pub IsOutputWritten : Option (List ℕ) → Option (List ℕ) → List ℕ → List ℕ → List ℕ → CommandOutputs → CommandOutputs → Type 0
 IsOutputWritten report_path junit_path shown report junit before after =
