@@ -23,8 +23,8 @@ is_text text (Some given) = bytes_eq text given
 abbrev pub has_other_text : List ℕ → List ℕ → GoldenText → Bool
 has_other_text path text golden_text = is_for_file path golden_text && not (is_text text golden_text.text)
 
--- what happens to a golden file to which `job` would write this text: it gets the text, or the job of the other golden text would write a
--- different one
+-- what happens to a golden file to which `job` would write this text: if another golden text is given, its job would write a different
+-- text; otherwise the file gets the text
 abbrev pub outcome_unless_another : ℕ → List ℕ → Option GoldenText → GoldenFileOutcome
 outcome_unless_another job text None = outcome.Agreed text
 outcome_unless_another job text (Some other) = outcome.Disagree job other.job

@@ -20,8 +20,8 @@ use Rattle.rv_accept.specs.declared.values.ValueKey.TheVariants as key
 abbrev pub end_skip_reason : Acceptance → Job → RowEnd → Option SkipReason
 end_skip_reason acceptance job end = if is_accepted_end acceptance job end then None else Some reasons.End
 
--- why a job is skipped because of its console, or `None`: the expected text in the list would change, and the actual console output is not
--- UTF-8
+-- the reason why a job is skipped because of its console: the expected text in the list would change, and the actual console output is not
+-- UTF-8; `None` if this is not the case
 abbrev pub text_skip_reason : Job → Row → Option SkipReason
 text_skip_reason job row =
     if is_value_changed key.Console job row && not (is_utf8 row.console) then Some reasons.NotUtf8 else None
@@ -35,8 +35,8 @@ abbrev pub has_replaceable_expectation : Job → Bool
 has_replaceable_expectation job = is_some job.expect_exit || (is_some job.expect_end || (is_some job.expect_console
     || is_some job.expect_signature))
 
--- why a job is skipped whose result differs from the result of its `same_as` job: because of its end, if that is not accepted, and
--- otherwise because of the difference
+-- why a job is skipped whose result differs from the result of its `same_as` job: because of its end, if the job has an expectation that a
+-- run can replace and the end is not accepted; otherwise because of the difference
 abbrev pub differing_skip_reason : Acceptance → Job → RowEnd → SkipReason
 differing_skip_reason acceptance job end = if has_replaceable_expectation job && not (is_accepted_end acceptance job end) then reasons.End else reasons.Differs
 

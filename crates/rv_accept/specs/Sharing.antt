@@ -1,5 +1,5 @@
--- Which jobs must run in order to accept the chosen ones: these, the jobs that share a golden file with one of them, and the jobs that one
--- of all these names by `same_as`.
+-- Which jobs must run in order to accept the chosen ones: the chosen jobs, the jobs that share a golden file with a chosen job, and the
+-- jobs that one of these names by `same_as`.
 use Rattle.std.specs.Prelude.{Bool, false, ◌==◌, ◌||◌, ◌&&◌, ◌+◌, ℕ, List, [], ◌∷◌, Option, Some, None}
 use Rattle.std.specs.Str.{bytes_eq}
 use Rattle.rv_rows.specs.declared_job.Job.{Job}

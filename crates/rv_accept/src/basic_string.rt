@@ -44,7 +44,7 @@ fn short_escape(byte: u8) -> Option<&'static str>
     }
 }
 
-// Appends a byte without a two-character escape: a control character as `\u00` and two hexadecimal digits, and any other byte unchanged.
+// Appends a byte that has no two-character escape: a control character as `\u00` and two hexadecimal digits, any other byte unchanged.
 fn push_without_short_escape(alloc: Global, out: &mut Vec<u8>, byte: u8) -> Result<(), AllocError>
     ensures { OnOk result (out.new.items ≡ out.old.items ++ byte_text_given_escape None byte) }
 {

@@ -8,7 +8,7 @@ use rv_rows::{ExpectedEnd, Job, RowEnd, did_run, has_expected_end, has_expected_
 /// Which ends of a run are accepted.
 #[derive(Clone, Copy, Debug, PartialEq, Eq)]
 pub enum Acceptance {
-    /// Only an end as the job expects it.
+    /// Only the end that the job expects.
     Expected,
     /// Also an exit with another code, if an exit is expected, and a fault of another kind, if a fault is expected.
     ExpectedKind,

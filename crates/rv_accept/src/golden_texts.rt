@@ -32,7 +32,7 @@ pub struct GoldenText {
 }
 
 // Appends the golden texts of a job: for its console and for its signature, if it names files for them. `job_and_row` is the job and its
-// row, and `is_accepted` says whether there are texts.
+// row. If `is_accepted` is false, the golden texts have no text.
 fn push_golden_texts(
     alloc: Global,
     golden_texts: &mut Vec<GoldenText>,

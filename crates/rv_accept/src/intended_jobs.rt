@@ -53,8 +53,8 @@ fn is_intended_job(job: &Job, accepted: Option<&Row>, other: &Job) -> bool
         && are_intended_values(job, accepted, other)
 }
 
-// Whether `other` expects the exit code, end and console that `job` expects after accepting the row; if there is no row, those that `job`
-// expects.
+// Whether `other` expects the exit code, end and console that `job` expects after accepting the row or, if there is no row, that `job`
+// expects now.
 fn are_intended_values(job: &Job, accepted: Option<&Row>, other: &Job) -> bool
     ensures exit { IsTrue result → other.now.expect_exit
         ≡ (intended_job job.now (option_map (λ row. row.now) accepted.entry)).expect_exit }

@@ -1,8 +1,9 @@
 //! Accepting the results of runs: which golden files and values of a list they replace.
 //!
-//! A job is accepted if its run ended as expected ([`is_accepted_end`]) or if it already passes ([`CurrentVerdict`]); nothing is accepted
-//! of a run that ended otherwise. A golden file is written if all jobs that name it are accepted and would write the same text
-//! ([`outcome_of_golden_file`]). A job that is accepted meets its expectations afterwards ([`accepted_jobs_meet_their_expectations`]).
+//! A chosen job is accepted if it already passes ([`CurrentVerdict`]), or if its run ended as expected ([`is_accepted_end`]) and there is
+//! no other reason to skip it ([`SkipReason`]). Nothing of any other run is accepted. A golden file is written if all jobs that name it are
+//! accepted and would write the same text ([`outcome_of_golden_file`]). A job that is accepted meets its expectations afterwards
+//! ([`accepted_jobs_meet_their_expectations`]).
 #![tactic(auto)]
 
 mod basic_string;

@@ -191,8 +191,8 @@ fn chosen_skip_reason(
     }
 }
 
-// Returns why a job is skipped whose result differs from the result of its `same_as` job: because of its end, if that is not accepted, and
-// otherwise because of the difference.
+// Returns why a job is skipped whose result differs from the result of its `same_as` job: because of its end, if the job has an expectation
+// that a run can replace and the end is not accepted; otherwise because of the difference.
 fn differing_skip_reason(acceptance: Acceptance, job: &Job, ending: RowEnd) -> SkipReason
     ensures { result ≡ differing_skip_reason acceptance job.now ending }
 {

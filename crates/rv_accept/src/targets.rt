@@ -1,4 +1,4 @@
-//! The golden files that chosen jobs name, and the outcome for each.
+//! The golden files that accepted jobs name, and what happens to each.
 
 ghost use Rattle.std.specs.Prelude.{◌≡◌, [], IfOk, OnOk, fold, option_map, slice_get};
 ghost use Rattle.rv_accept.specs.Targets.{is_accepted_entry, has_target, target_of, with_target};

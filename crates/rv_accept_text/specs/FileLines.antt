@@ -77,7 +77,8 @@ abbrev pub other_text_reason : List Job → GoldenText → Option GoldenText →
 other_text_reason jobs first None = codes "\n"
 other_text_reason jobs first (Some other) = disagreeing_texts jobs first other
 
--- the reason why the golden file at the path is skipped: two jobs have different texts for it; given the file's first golden text
+-- the reason why the golden file at the path is skipped: two jobs have different texts for it; the last argument is the file's first golden
+-- text; only a line feed if there is none
 abbrev pub first_text_reason : List Job → List GoldenText → List ℕ → Option GoldenText → List ℕ
 first_text_reason jobs golden_texts path None = codes "\n"
 first_text_reason jobs golden_texts path (Some first) =

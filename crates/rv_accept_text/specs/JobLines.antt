@@ -36,7 +36,7 @@ abbrev pub exit_code : RowEnd → ℕ
 exit_code (ending.Exit code) = code
 exit_code _ = 0
 
--- the rest of the line: the old and the new exit code
+-- the rest of the line about `expect_exit`: the old and the new exit code
 abbrev pub exit_change : Option ℕ → RowEnd → List ℕ
 exit_change expected end = codes " " ++ decimal (unwrap_or expected 0) ++ codes " -> " ++ decimal (exit_code end) ++ codes "\n"
 
@@ -51,7 +51,7 @@ abbrev pub ending_fault_name : RowEnd → List ℕ
 ending_fault_name (ending.Fault kind pc value) = fault_name kind
 ending_fault_name _ = []
 
--- the rest of the line: the old and the new kind of fault
+-- the rest of the line about `expect_end`: the old and the new kind of fault
 abbrev pub end_change : Option ExpectedEnd → RowEnd → List ℕ
 end_change expected_end end = codes " " ++ expected_end_value expected_end ++ codes " -> " ++ ending_fault_name end ++ codes "\n"
 

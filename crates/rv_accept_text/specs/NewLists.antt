@@ -9,7 +9,7 @@ use Rattle.rv_accept.specs.declared.runs.SkipReason.{SkipReason}
 use Rattle.rv_accept.specs.declared.runs.SkipReason.TheVariants as reasons
 use Rattle.rv_accept.specs.declared.values.ValueKey.TheVariants as key
 
--- the run, skipped for this reason if it was accepted, and otherwise unchanged
+-- the run; if it was accepted and a reason is given, it is now skipped for this reason; otherwise it is unchanged
 abbrev pub skipped_run : Option SkipReason → JobRun → JobRun
 skipped_run reason run = if is_accepted_run run then record run { skip_reason = reason } else run
 
@@ -23,26 +23,26 @@ unfoldable pub skipped_runs : List (Option SkipReason) → List (Option JobRun) 
 skipped_runs [] runs = []
 skipped_runs (reason ∷ reason_list) runs = option_map (skipped_run reason) (run_or_none (slice_get runs 0)) ∷ skipped_runs reason_list (drop 1 runs)
 
--- the runs are those of `before`, of which some accepted ones were skipped, in one or two rounds
+-- the runs are those of `before`, except that some accepted runs were skipped, in one or two rounds
 pub data AreSkippedFrom (before : List (Option JobRun)) : List (Option JobRun) → Type 0 where
   one_step : (reason_list : List (Option SkipReason)) → AreSkippedFrom before (skipped_runs reason_list before)
   two_steps : (reason_list more : List (Option SkipReason)) → AreSkippedFrom before (skipped_runs more (skipped_runs reason_list before))
 
 -- ---- jobs whose values would change, when the list is not edited
 
--- why a job is skipped, naming its first value that changes, or `None` if no value changes
+-- the reason why a job is skipped, which names its first value that changes; `None` if no value changes
 abbrev pub change_skip_reason : Job → Row → Option SkipReason
 change_skip_reason job row =
     if is_value_changed key.Exit job row then Some (reasons.NotEditable key.Exit)
     else if is_value_changed key.End job row then Some (reasons.NotEditable key.End)
     else if is_value_changed key.Console job row then Some (reasons.NotEditable key.Console) else None
 
--- why a job is skipped, naming its first value that changes, or `None` if no value changes or the job was not run
+-- the reason why a job is skipped, which names its first value that changes; `None` if no value changes or the job was not run
 abbrev pub change_skip_reason_if_run : Job → Option JobRun → Option SkipReason
 change_skip_reason_if_run job None = None
 change_skip_reason_if_run job (Some run) = change_skip_reason job run.row
 
--- for each run why its job is skipped, naming its first value that changes, or `None` if no value changes
+-- for each run the reason why its job is skipped, which names its first value that changes; `None` if no value changes
 unfoldable pub change_skip_reasons : List Job → List (Option JobRun) → List (Option SkipReason)
 change_skip_reasons [] runs = []
 change_skip_reasons (job ∷ jobs) [] = []

@@ -84,7 +84,7 @@ fn push_value_change(
     }
 }
 
-// Appends the rest of the line: the old and the new exit code.
+// Appends the rest of the line about `expect_exit`: the old and the new exit code.
 fn push_exit_change(
     out: &mut Vec<u8>,
     expected: Option<u32>,
@@ -114,7 +114,7 @@ fn exit_code(ending: RowEnd) -> u32
     }
 }
 
-// Appends the rest of the line: the old and the new kind of fault.
+// Appends the rest of the line about `expect_end`: the old and the new kind of fault.
 fn push_end_change(
     out: &mut Vec<u8>,
     expected: Option<ExpectedEnd>,

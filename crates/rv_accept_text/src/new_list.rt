@@ -31,11 +31,11 @@ pub struct ChangedValue {
 /// The edited text of a list, and the runs of its jobs.
 #[derive(Drop)]
 pub struct NewList {
-    /// The edited text, or `None` if no value changes.
+    /// The edited text, or `None` if the list stays unchanged.
     pub text: Option<Vec<u8>>,
     /// The values that change, in text order.
     pub values: Vec<ChangedValue>,
-    /// The runs. Those whose values cannot be edited were skipped.
+    /// The runs. A run is skipped if a value of its job changes and cannot be edited.
     pub runs: Vec<Option<JobRun>>,
 }
 
@@ -110,7 +110,7 @@ fn skip_changed_jobs(
     })
 }
 
-// Appends for each run why its job is skipped, naming the first value that changes, or `None` if no value changes.
+// Appends for each run the reason why its job is skipped, which names the first value that changes; `None` if no value changes.
 #[tactic(auto, unfolding(crate::specs::NewLists::change_skip_reasons))]
 fn push_change_skip_reasons(
     reason_list: &mut Vec<Option<SkipReason>>,
@@ -129,7 +129,7 @@ fn push_change_skip_reasons(
     }
 }
 
-// Returns why a job is skipped, naming its first value that changes, or `None` if no value changes or the job was not run.
+// Returns the reason why a job is skipped, which names its first value that changes; `None` if no value changes or the job was not run.
 fn change_skip_reason_if_run(job: &Job, run: &Option<JobRun>) -> Option<SkipReason>
     ensures { result ≡ change_skip_reason_if_run job.now run.now }
 {
@@ -139,7 +139,7 @@ fn change_skip_reason_if_run(job: &Job, run: &Option<JobRun>) -> Option<SkipReas
     }
 }
 
-// Returns why a job is skipped, naming its first value that changes, or `None` if no value changes.
+// Returns the reason why a job is skipped, which names its first value that changes; `None` if no value changes.
 fn change_skip_reason(job: &Job, row: &Row) -> Option<SkipReason>
     ensures { result ≡ change_skip_reason job.now row.now }
 {
@@ -218,7 +218,8 @@ fn next_run(runs: &mut IntoIter<Option<JobRun>>) -> Option<JobRun>
     }
 }
 
-// Returns the run of a job, skipped for this reason if it was accepted, or `None` if the job was not run.
+// Returns the run of a job, or `None` if the job was not run. If the run was accepted and a reason is given, it is now skipped for this
+// reason.
 fn skipped_if_run(reason: Option<SkipReason>, run: Option<JobRun>) -> Option<JobRun>
     ensures { result ≡ option_map (skipped_run reason) run }
 {
@@ -228,7 +229,7 @@ fn skipped_if_run(reason: Option<SkipReason>, run: Option<JobRun>) -> Option<Job
     }
 }
 
-// Returns the run, skipped for this reason if it was accepted, and otherwise unchanged.
+// Returns the run. If it was accepted and a reason is given, it is now skipped for this reason; otherwise it is unchanged.
 fn skipped_run(reason: Option<SkipReason>, run: JobRun) -> JobRun
     ensures { result ≡ skipped_run reason run }
 {
@@ -259,7 +260,8 @@ fn editable_values(alloc: Global, text: &[u8]) -> Result<EditableValues, AllocEr
     })
 }
 
-// Returns for each run why its job is skipped, naming the first value that changes and cannot be edited, or `None` if there is none.
+// Returns for each run the reason why its job is skipped, which names the first value that changes and cannot be edited; `None` if there is
+// no such value.
 fn uneditable_reasons(
     alloc: Global,
     jobs: &[Job],
@@ -277,7 +279,7 @@ fn uneditable_reasons(
     Ok(reason_list)
 }
 
-// Returns why a job is skipped, naming the first value that changes and cannot be edited, or `None` if there is none.
+// Returns the reason why a job is skipped, which names its first value that changes and cannot be edited; `None` if there is no such value.
 fn uneditable_reason(
     index: usize,
     job: &Job,

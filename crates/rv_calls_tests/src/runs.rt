@@ -13,11 +13,11 @@ no call | imc | 9 | X |
 call | imc | 9 | 008000ef 00000013 X | 80000000 80000004 00000000
 call that is not run | imc | 0 | 008000ef 00000013 X |
 call without a link | imc | 9 | 0080006f 00000013 X |
-call by a register that is no link | imc | 9 | 0080036f 00000013 X |
-call to where no memory is | imc | 9 | 000000e7 | 80000000 80000004 00000000
+call that links a register other than ra and t0 | imc | 9 | 0080036f 00000013 X |
+call to an address without memory | imc | 9 | 000000e7 | 80000000 80000004 00000000
 call that faults | im | 9 | 002000ef |
 call that returned | imc | 9 | 010000ef X 00000013 00008067 |
-call in front of its return | imc | 1 | 010000ef X 00000013 00008067 | 80000000 80000004 00000000
+call before its return | imc | 1 | 010000ef X 00000013 00008067 | 80000000 80000004 00000000
 compressed call | imc | 1 | 2029 X 8082 | 80000000 80000002 00000000
 compressed return | imc | 9 | 2029 X 8082 |
 recursion | imc | 99 | \
@@ -31,9 +31,9 @@ tail call | imc | 2 | 010000ef X 00000013 0080006f 00000013 00008067 | 80000000 
 return of a tail call | imc | 9 | 010000ef X 00000013 0080006f 00000013 00008067 |
 tail call by a register | imc | 3 | 80000337 00c000ef X 01430067 00008067 | 80000004 80000008 00000000
 return of a tail call by a register | imc | 9 | 80000337 00c000ef X 01430067 00008067 |
-save-restore, in the saving | imc | 3 | \
+save-restore, during the saving | imc | 3 | \
     00c000ef X 008002ef 00c0006f ff010113 00028067 01010113 00008067 | 80000000 80000004 00000000, 8000000c 80000010 00000000
-save-restore, behind the saving | imc | 4 | 00c000ef X 008002ef 00c0006f ff010113 00028067 01010113 00008067 | 80000000 80000004 00000000
+save-restore, after the saving | imc | 4 | 00c000ef X 008002ef 00c0006f ff010113 00028067 01010113 00008067 | 80000000 80000004 00000000
 save-restore, returned | imc | 99 | 00c000ef X 008002ef 00c0006f ff010113 00028067 01010113 00008067 |
 call by the link that it writes | imc | 9 | 800000b7 010080e7 X X | 80000004 80000008 00000000
 switch by both links | imc | 9 | 00c000ef X 000082e7 | 8000000c 80000010 00000000
@@ -43,7 +43,7 @@ two tasks, in the second | imc | 14 | \
     80001137 80000337 03c30313 800003b7 40038393 00c000ef 008000ef 00000013 00008413 00030093 00040313 00010413 00038113 00040393 00008067 fe5ff0ef X | 80000014 80000018 80001000, 8000003c 80000040 80000400
 two tasks, the second with the higher stack | imc | 99 | \
     80001137 80000337 03c30313 800013b7 40038393 00c000ef 008000ef 00000013 00008413 00030093 00040313 00010413 00038113 00040393 00008067 fe5ff0ef X |
-two tasks, behind the first switch to the higher stack | imc | 13 | \
+two tasks, after the first switch to the higher stack | imc | 13 | \
     80001137 80000337 03c30313 800013b7 40038393 00c000ef 008000ef 00000013 00008413 00030093 00040313 00010413 00038113 00040393 00008067 fe5ff0ef X |
 ";
 
@@ -66,13 +66,13 @@ fn machine_of(alloc: Global, isa: Isa, program: &str) -> Result<Machine, Fail> {
     let mut bus = Bus::new(alloc, map, Vec::new(alloc), Misaligned::Fault)?;
     let bytes = numbers(alloc, program)?;
     if bytes.len() > 0x1000 || !bus.map().in_one(BASE, bytes.len() as u32) {
-        return Err("a place".into());
+        return Err("the code does not fit in memory".into());
     }
     bus.place(BASE, &bytes);
     Ok(Machine::new(alloc, bus, BASE, isa)?)
 }
 
-// Returns the frames at the end of a run within a budget, as a row writes them.
+// Returns the frames at the end of a run of at most `budget` steps, in the form of the last column of `RUNS`.
 fn frames_text(alloc: Global, machine: Machine, budget: u32) -> Result<String, AllocError> {
     let mut text = String::new(alloc);
     let calls = calls_of_run(alloc, machine, budget)?;

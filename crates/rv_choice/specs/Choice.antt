@@ -28,8 +28,8 @@ choice_by_names names name = option_map (λ names. is_among_names names name) na
 abbrev pub choice_by_pattern : Option Re → List ℕ → Option Bool
 choice_by_pattern pattern name = option_map (λ pattern. is_some (find_str pattern name 0)) pattern
 
--- whether a job is chosen; each argument says whether the job meets a criterion, or is `None` if that is not given; the job must meet at
--- least one, unless none is given
+-- whether a job is chosen; each argument says whether the job meets a criterion, or is `None` if the criterion is not given; the job must
+-- meet at least one criterion, unless none is given
 abbrev pub is_chosen : Option Bool → Option Bool → Option Bool → Bool
 is_chosen None None None = true
 is_chosen by_name by_pattern by_report =

@@ -17,7 +17,7 @@ use Rattle.rv_choice.specs.Choice.{count_jobs_without_row, remaining_selection, 
 use Rattle.rv_choice.specs.FailedJobNotes.{failed_job_notes}
 use Rattle.rv_choice.specs.UnknownName.{unknown_name}
 
--- `selection` is the choice by `--only`, by the pattern and by the names `failed`, the failed jobs of the report at `path`, in which
+-- `selection` is the choice by `--only`, by the pattern and by the names `failed` of the failed jobs in the report at `path`, in which
 -- `missing` jobs of the list have no row; it is `None` only if nothing but failed jobs is requested, and no job failed
 pub record AreChosenFrom (path : List ℕ) (failed : ChosenNames) (missing : ℕ) (pattern : Option Re) (args : RunArgs)
     (jobs : List Job) (selection : Option (List Bool)) (notes : List ℕ) : Type 0 where

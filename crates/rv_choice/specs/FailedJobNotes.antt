@@ -11,7 +11,7 @@ abbrev pub removed_job_note : List ℕ → List ℕ → List ℕ
 removed_job_note path name = codes "rvtest: " ++ printable_text path ++ codes ": note: job \"" ++ name
     ++ codes "\" failed, but is no longer in the list\n"
 
--- the note that this failed job is no longer in the list; empty if it is
+-- the note that this failed job is no longer in the list; empty if the job is in the list
 abbrev pub failed_job_note : List ℕ → List Job → List ℕ → List ℕ
 failed_job_note path jobs name = if has_job_named jobs name then [] else removed_job_note path name
 
@@ -19,7 +19,8 @@ failed_job_note path jobs name = if has_job_named jobs name then [] else removed
 abbrev pub removed_job_notes : List ℕ → List Job → List (List ℕ) → List ℕ
 removed_job_notes path jobs names = flat_map (failed_job_note path jobs) names
 
--- the note that no job failed in the report at the path; if `missing` jobs of the list have no row, it says that none of the rows failed
+-- the note that no job failed in the report at the path; if `missing`, the number of jobs of the list that have no row in it, is not 0, the
+-- note says that none of its rows failed
 abbrev pub none_failed_note : List ℕ → ℕ → List ℕ
 none_failed_note path missing =
     path_message path (if missing == 0 then codes "note: no failed jobs" else codes "note: no failed jobs among its rows")

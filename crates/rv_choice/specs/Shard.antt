@@ -38,7 +38,7 @@ pub record IsShardText (text : List ℕ) : Type 0 where
   pub in_range : number_before_slash text ≤ number_after_slash text
   pub at_most_max : number_after_slash text ≤ max_jobs
 
--- there is a shard if and only if there is a text, and it has the numbers K and N of the text `K/N`
+-- there is a shard if and only if there is a text; the shard has the numbers K and N of the text `K/N`
 abbrev pub IsShardOf : Option (Bor (List ℕ)) → Option Shard → Type 0
 IsShardOf text shard = (is_some shard ≡ is_some text)
     × IfSome text (λ text. IfSome shard (λ shard. (shard.number ≡ number_before_slash text.now)

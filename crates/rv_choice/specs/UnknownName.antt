@@ -12,7 +12,7 @@ use Rattle.rv_expect.specs.declared_job.Job.{Job}
 use Rattle.rv_command.specs.Printable.{printable_text, printable_value}
 use Rattle.rv_choice.specs.Choice.{has_job_named}
 
--- the first of these names that is not the name of a job, or `None` if all are
+-- the first of these names that is not the name of a job, or `None` if each is the name of a job
 abbrev pub unknown_name : List Job → List (Bor (List ℕ)) → Option (List ℕ)
 unknown_name jobs names = option_map (λ name. name.now) (find (λ name. not (has_job_named jobs name.now)) names)
 
@@ -26,7 +26,7 @@ abbrev pub text_before_name : ℕ → ℕ → List ℕ
 text_before_name index count =
     if index == 0 then codes "\"; the jobs are \"" else if index + 1 == count then codes "\" and \"" else codes "\", \""
 
--- the names of jobs in a list with `count` names, from the one at an index on
+-- the names of these jobs, each after the text before it; the first job is at this index of a list with `count` names
 unfoldable pub names_from : ℕ → ℕ → List Job → List ℕ
 names_from index count [] = []
 names_from index count (job ∷ jobs) = (text_before_name index count ++ job.name) ++ names_from (index + 1) count jobs

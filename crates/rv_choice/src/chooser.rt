@@ -49,7 +49,7 @@ pub struct Choice {
 }
 
 impl Choice {
-    // Returns the choice with `note` put before its notes.
+    // Returns the choice with `note` before its other notes.
     fn with_leading_note(self, note: Vec<u8>) -> Result<Choice, AllocError>
         ensures selection { IfOk result (λ choice. choice.selection ≡ self.selection) }
         ensures notes { IfOk result (λ choice. choice.notes.items ≡ note.items ++ self.notes.items) }
@@ -140,7 +140,7 @@ impl<'x, D: Inputs> Chooser<'x, D> {
     }
 
     // Returns the selection without the jobs whose names the pattern matches, or unchanged if there is no pattern or no selection. It is an
-    // error if this leaves no job.
+    // error if jobs are selected and the pattern leaves none.
     fn without_excluded(
         &self,
         excluded: Option<&Regex>,
@@ -164,7 +164,8 @@ impl<'x, D: Inputs> Chooser<'x, D> {
         Ok(Some(remaining))
     }
 
-    // Returns the selection without the jobs whose names the pattern matches. It is an error if this leaves no job.
+    // Returns the selection without the jobs whose names the pattern matches. It is an error if jobs are selected and the pattern leaves
+    // none.
     fn remaining_selection(
         &self,
         selection: &[bool],
@@ -231,8 +232,8 @@ impl<'x, D: Inputs> Chooser<'x, D> {
         self.choose_from_failed_names(path, failed.as_slice(), missing, pattern, jobs)
     }
 
-    // Returns the jobs that the pattern of `--match`, the names of `--only` or the names `failed` choose. These are the failed jobs of the
-    // report at `path`, in which `missing` jobs of the list have no row.
+    // Returns the jobs that the pattern of `--match`, the names of `--only` or the names `failed` choose. `failed` are the names of the
+    // failed jobs in the report at `path`, in which `missing` jobs of the list have no row.
     fn choose_from_failed_names(
         &self,
         path: &str,

@@ -64,8 +64,8 @@ pub(crate) fn failed_job_notes(
     Ok(notes)
 }
 
-// Returns the note that no job failed in the report at `path`. If `missing` jobs of the list have no row, it says that none of the rows
-// failed.
+// Returns the note that no job failed in the report at `path`. If `missing`, the number of jobs of the list that have no row in it, is not
+// 0, the note says that none of its rows failed.
 fn none_failed_note(alloc: Global, path: &str, missing: usize) -> Result<Vec<u8>, AllocError>
     ensures { IfOk result (λ note. note.items ≡ none_failed_note path.now missing) }
 {

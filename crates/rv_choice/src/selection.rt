@@ -10,7 +10,7 @@ use regex::{Matcher, Regex};
 use rv_expect::Job;
 use std::alloc::{AllocError, Global};
 
-/// The criteria by which jobs are chosen. A job is chosen if it meets at least one of those that are given; if none is given, every job is
+/// The criteria by which jobs are chosen. A job is chosen if it meets at least one of the given criteria; if none is given, every job is
 /// chosen.
 #[derive(Clone, Copy)]
 pub(crate) struct Criteria<'a> {
@@ -90,8 +90,8 @@ fn is_chosen_name(criteria: Criteria<'_>, matcher: &mut Option<Matcher<'_>>, nam
     )
 }
 
-// Whether a job is chosen. Each argument says whether the job meets a criterion, or is `None` if that is not given: it must meet at least
-// one, unless none is given.
+// Whether a job is chosen. Each argument says whether the job meets a criterion, or is `None` if the criterion is not given. The job must
+// meet at least one criterion, unless none is given.
 fn is_chosen(by_name: Option<bool>, by_pattern: Option<bool>, by_report: Option<bool>) -> bool
     ensures { result ≡ is_chosen by_name by_pattern by_report }
 {
@@ -131,7 +131,7 @@ fn choice_by_pattern(matcher: &mut Option<Matcher<'_>>, name: &str) -> Option<bo
     }
 }
 
-/// Returns the first of these names that is not the name of a job, or `None` if all are.
+/// Returns the first of these names that is not the name of a job, or `None` if each is the name of a job.
 pub(crate) fn first_unknown_name<'a>(jobs: &[Job], names: &[&'a str]) -> Option<&'a str>
     ensures { option_map (λ name. name.now) result ≡ unknown_name jobs.now names.now }
 {

@@ -94,7 +94,7 @@ fn push_names(message: &mut Vec<u8>, jobs: &[Job]) -> Result<(), AllocError>
     push_more_names(message, jobs.len())
 }
 
-// Appends the names of these jobs, the first of the `count` names of a list.
+// Appends the names of these jobs, each after the text before it. They are the first of the `count` names of a list.
 fn push_first_names(message: &mut Vec<u8>, jobs: &[Job], count: usize) -> Result<(), AllocError>
     requires { length jobs.now ≤ count }
     ensures { OnOk result (message.new.items ≡ message.old.items ++ names_from 0 count jobs.now) }

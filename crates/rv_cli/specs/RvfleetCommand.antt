@@ -82,8 +82,8 @@ fleet_app =
 -- ---- the requests
 
 -- what the arguments request: `raw` runs a flat image with this budget; `one` runs the image at this path with this budget and the
--- hexadecimal digits of its console input, if any; `run` runs the job list at this path with this number of workers and this number of jobs
--- claimed at once
+-- hexadecimal digits of its console input, if any; `run` runs the job list at this path with this number of workers, each of which takes
+-- this number of jobs at a time
 pub data Request : Type 0 where
   raw : ℕ → Request
   one : Text → ℕ → Option Text → Request

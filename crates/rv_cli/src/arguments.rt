@@ -37,7 +37,7 @@ pub fn option_argument<'a>(alloc: Global, name: &'a str, value: &'a str, help: &
         .help(help)
 }
 
-/// Returns the option `--group N`, the number of consecutive jobs that a thread claims at once.
+/// Returns the option `--group N`, the number of consecutive jobs that a thread takes at a time.
 pub fn group_argument<'a>(alloc: Global) -> Arg<'a>
     ensures { (rule_of result ≡ group_rule) × (result.global ≡ false) }
 {

@@ -33,7 +33,7 @@ pub enum Request<'a> {
         budget: u32,
         input_hex: Option<&'a str>,
     },
-    /// Run the job list at a path, with 1 to 64 workers that claim 1 to 4,096 jobs at once.
+    /// Run the job list at a path, with 1 to 64 workers, each of which takes 1 to 4,096 jobs at a time.
     Run {
         jobs: &'a str,
         workers: u32,

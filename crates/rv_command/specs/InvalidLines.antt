@@ -1,5 +1,5 @@
--- Messages about a file that should be a report, of a list or of a shard: it is a job list, or it has an invalid line, which is shown with
--- what was expected instead.
+-- Messages about a file that should be a report, of a whole list or of a shard, but is a job list, or has an invalid line. The message
+-- shows this line and what was expected instead.
 use Rattle.std.specs.Prelude.{◌-◌, ◌+◌, ◌==◌, ◌||◌, ◌++◌, ℕ, zero, suc, Bool, true, false, List, [], ◌∷◌, Option, Some, None, codes, drop}
 use Rattle.std.specs.Prelude.{if◌then◌else◌, length, nat_eq, nat_lt, position, take}
 use Rattle.std.specs.Fmt.{decimal}
@@ -33,7 +33,7 @@ first_line text = text_up_to (position is_line_feed text) text
 abbrev pub text_after_line : List ℕ → List ℕ
 text_after_line text = text_after (position is_line_feed text) text
 
--- the text after its first `count` lines
+-- the text after its first `count` lines; empty if it has no further lines
 unfoldable pub text_after_lines : ℕ → List ℕ → List ℕ
 text_after_lines zero text = text
 text_after_lines (suc count) text = text_after_line (text_after_lines count text)
@@ -102,8 +102,8 @@ abbrev pub job_list_message : ResultKind → List ℕ → List ℕ
 job_list_message kind path =
     codes "rvtest: " ++ printable_text path ++ codes ": this is a job list, not " ++ kind_text kind ++ codes "\n"
 
--- the message that the file at a path is not of the expected kind: that it is a job list, if it is one, or else that the line with this
--- number is invalid
+-- the message that the file at a path is not of the expected kind: that it is a job list, or, if it is none, that the line with this number
+-- is invalid
 abbrev pub invalid_line_message : ResultKind → List ℕ → List ℕ → ℕ → List ℕ
 invalid_line_message kind path text number =
     if is_job_list text then job_list_message kind path else line_message kind path text number

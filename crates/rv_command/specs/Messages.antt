@@ -19,8 +19,8 @@ IsMessageWritten before after failures_before failures_after text =
 abbrev pub path_message : List ℕ → List ℕ → List ℕ
 path_message path reason = codes "rvtest: " ++ printable_text path ++ codes ": " ++ reason ++ codes "\n"
 
--- the message about a line or a job, with this number, of the file at the path: `label` is the text before the number, and `reason` the
--- text after it
+-- a message with a number, for example of a line, about the file at the path: `label` is the text before the number, and `reason` the text
+-- after it
 abbrev pub path_number_message : List ℕ → List ℕ → ℕ → List ℕ → List ℕ
 path_number_message path label number reason =
     codes "rvtest: " ++ printable_text path ++ label ++ decimal number ++ reason

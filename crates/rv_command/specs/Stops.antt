@@ -67,7 +67,7 @@ IsRejection stop = (stop ≡ stops.OutOfMemory) ⊎ (stop_status stop ≡ 2)
 abbrev pub IsRejectedWith : List ℕ → Stop → Type 0
 IsRejectedWith text stop = (stop_status stop ≡ 2) × (stop_message stop ≡ text)
 
--- the stop rejects the arguments with the text of this error; if the error is that memory ran out, so does the stop say
+-- the stop rejects the arguments with the text of this error, or says that memory ran out if the error does
 abbrev pub IsArgsRejection : ArgsError → Stop → Type 0
 IsArgsRejection error.OutOfMemory stop = stop ≡ stops.OutOfMemory
 IsArgsRejection (error.Message fault text) stop = IsRejectedWith (string_bytes text) stop
@@ -159,7 +159,7 @@ IsReportReadStop contents path stop = IsResultUnreadStop contents path stop
 
 -- ---- reports that can be truncated
 
--- the stop reports the first invalid line of the bytes, or memory ran out; the start of a report has no invalid line
+-- the stop reports the first invalid line of the bytes, or memory ran out; for the start of a report, it can only be that memory ran out
 pub record IsPartialFaultStop (path bytes : List ℕ) (stop : Stop) : Type 0 where
   pub reported : (stop ≡ stops.OutOfMemory)
       ⊎ ((line : ℕ) × IsFirstInvalidLine line bytes × IsLineStop path bytes line stop)

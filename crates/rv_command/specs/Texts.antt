@@ -20,7 +20,7 @@ pub record IsReportText (bytes : List ℕ) (report : SavedReport) : Type 0 where
   pub saved : IsValidReport report
   pub text : saved_text report ≡ bytes
 
--- the file at the path has the text of this report; any text if the contents of files are not known
+-- the file at the path has the text of this report; true for any valid report if the contents of files are not known
 pub record IsReportAt (contents : Option FileContents) (path : List ℕ) (report : SavedReport) : Type 0 where
   pub bytes : List ℕ
   pub read : IsTextAt contents path bytes

@@ -1,4 +1,4 @@
-//! Messages about a file that should be a report, of a list or of a shard, and has an invalid line.
+//! Messages about a file that should be a report, of a whole list or of a shard, but has an invalid line.
 
 ghost use Rattle.std.specs.Prelude.{◌≡◌, ◌<◌, IfOk, IfSome, length, position};
 ghost use Rattle.rv_list_errors.specs.LinesAndColumns.{is_line_feed};
@@ -19,7 +19,7 @@ pub enum ResultKind {
     Part,
 }
 
-/// Returns the message that the file at a path is not of the expected kind. It says that the file is a job list, if it is one, or else
+/// Returns the message that the file at a path is not of the expected kind. If the file is a job list, the message says so. Otherwise it
 /// shows the invalid line with this number and what was expected instead.
 pub fn invalid_line_message<'a>(
     alloc: Global,
@@ -141,7 +141,7 @@ fn line_before(text: &[u8], number: usize) -> &[u8]
     }
 }
 
-// Returns the text after its first `count` lines.
+// Returns the text after its first `count` lines; empty if it has no further lines.
 #[tactic(auto, unfolding(crate::specs::InvalidLines::text_after_lines))]
 fn text_after_lines(text: &[u8], count: usize) -> &[u8]
     ensures { result.now ≡ text_after_lines count text.now }

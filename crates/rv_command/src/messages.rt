@@ -33,7 +33,7 @@ pub fn path_message<'a>(
     )
 }
 
-/// Returns a message about a line or a job, with this number, of the file at the path: `label` is the text before the number, and `reason`
+/// Returns a message with a number, for example of a line, about the file at the path: `label` is the text before the number, and `reason`
 /// the text after it.
 pub fn path_number_message<'a>(
     alloc: Global,
@@ -56,7 +56,7 @@ pub fn path_number_message<'a>(
     )
 }
 
-/// Writes a message to standard error. If this fails, there is no further effect.
+/// Writes a message to standard error. A failed write is ignored.
 pub fn write_message<E: Sink>(errors: &mut E, text: &[u8])
     ensures { IsMessageWritten (E.accepted errors.old) (E.accepted errors.new)
         (E.failure_count errors.old) (E.failure_count errors.new) text.now }
@@ -64,7 +64,7 @@ pub fn write_message<E: Sink>(errors: &mut E, text: &[u8])
     let _ = put_all(errors, text);
 }
 
-/// Writes results to standard output. If a write fails, returns `WriteFailed`; a prefix of the results was written then.
+/// Writes results to standard output. If a write fails, returns `WriteFailed`; a prefix of the results has then been written.
 pub fn write_results<O: Sink>(out: &mut O, text: &[u8]) -> Result<(), Stop>
     ensures written { OnOk result (Appends (O.accepted out.old) (O.accepted out.new) text.now) }
     ensures no_failed_writes { OnOk result (O.failure_count out.new ≡ O.failure_count out.old) }

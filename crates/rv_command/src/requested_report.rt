@@ -58,7 +58,7 @@ pub fn parse_requested_report(
     })
 }
 
-// Parses the text of a report. If it is truncated, returns its complete rows.
+// Parses the text of a report. If it is truncated, returns its complete rows. An invalid line is an error.
 fn parse_partial_report(alloc: Global, path: &str, text: &[u8]) -> Result<PartialReport, Stop>
     ensures read { IfOk result (λ report. IsReadAs text.now report.is_truncated report.report) }
     ensures at_most_max { IfOk result (λ report. length report.report.rows ≤ max_jobs) }
@@ -67,7 +67,7 @@ fn parse_partial_report(alloc: Global, path: &str, text: &[u8]) -> Result<Partia
     match read_partial_report(alloc, text) {
         Ok(report) => Ok(report),
         Err(ReadError::Line(line)) => Err(report_line_stop(alloc, path, text, line)),
-        // Truncated reports are accepted here.
+        // A truncated report is not an error here.
         Err(ReadError::OutOfMemory | ReadError::Truncated) => Err(Stop::OutOfMemory),
     }
 }

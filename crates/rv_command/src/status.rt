@@ -1,9 +1,9 @@
 //! The exit statuses of `rvtest`.
 
-/// Success: no job failed, and no report differs.
+/// Success: no job failed or differs, and `accept` skipped nothing and, with `--check`, found no change.
 pub const DONE: u8 = 0;
 
-/// A job failed, or two reports differ.
+/// A job failed or differs, or `accept` skipped a job or a file or, with `--check`, found a change.
 pub const SOME_FAIL: u8 = 1;
 
 /// The arguments, a list or a report are rejected.

@@ -29,7 +29,7 @@ pub enum MessageKind {
 }
 
 impl Stop {
-    /// Returns the stop that rejects the arguments with the text of this error.
+    /// Returns the stop that rejects the arguments with the text of this error; `OutOfMemory` if the error is that memory ran out.
     pub fn of_args_error(error: ArgsError) -> Stop
         ensures { IsArgsRejection error result }
     {

@@ -24,7 +24,7 @@ unfinished | $qSupported:xml |
 // Bodies of recorded replies: label | body | packet.
 const FRAMED: &str = "\
 granted | OK | $OK#9a
-not known |  | $#00
+not supported |  | $#00
 a stop | T05 | $T05#b9
 refused | E01 | $E01#a6
 features | PacketSize=4000;QStartNoAckMode+;ReverseStep+;ReverseContinue+;qXfer:features:read+;qXfer:exec-file:read+ | $PacketSize=4000;QStartNoAckMode+;ReverseStep+;ReverseContinue+;qXfer:features:read+;qXfer:exec-file:read+#38
@@ -32,7 +32,7 @@ actions | vCont;c;C;s;S;r | $vCont;c;C;s;S;r#0f
 a register | f8000080 | $f8000080#c6
 ";
 
-// Appends a received item, as a row writes it.
+// Appends a received item, in the form of the last column of `HEARD`.
 fn push_item(text: &mut String, heard: &Incoming) -> Result<(), Fail> {
     match heard {
         Incoming::Interrupt => text.push_str("^C")?,
@@ -51,7 +51,7 @@ fn push_item(text: &mut String, heard: &Incoming) -> Result<(), Fail> {
     Ok(())
 }
 
-// Returns the items that are received from the bytes if they arrive in chunks of this length, as a row writes them.
+// Returns the items that are received if the bytes arrive in chunks of this length, in the form of the last column of `HEARD`.
 fn items_text(alloc: Global, bytes: &[u8], length: usize) -> Result<String, Fail> {
     let mut reader = Reader::new(alloc);
     let mut text = String::new(alloc);

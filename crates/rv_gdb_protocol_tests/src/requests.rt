@@ -187,7 +187,7 @@ fn common_replies_are_expected(rt: HostRuntime) -> Result<(), Fail> {
     Ok(())
 }
 
-// The target description, requested part by part, each part from the end of the one before, is complete.
+// If the target description is requested in parts, each from the end of the previous one, the parts make up the whole text.
 #[test]
 fn parts_make_up_the_description(rt: HostRuntime) -> Result<(), Fail> {
     let mut whole = Vec::new(rt.alloc());

@@ -59,7 +59,7 @@ fn make_move(
     Ok(format!(in alloc; "{} {told}", history.current_step())?)
 }
 
-// Checks that an interrupted move ends, when it is continued, where it would have ended without the interrupt.
+// Makes a move that an interrupt stops, makes it again without an interrupt, and checks both results with the line.
 fn check_moves_from(
     alloc: Global,
     history: &mut History,
@@ -74,7 +74,7 @@ fn check_moves_from(
     check_equal(line, met.as_str(), cell_of(line, 5))
 }
 
-// Checks that the interrupt of a line stops a move in this direction.
+// Checks that the interrupt of a line stops a move in this direction, and that the move can then be made again.
 fn check_interrupted(alloc: Global, direction: Direction, line: &str) -> Result<(), Fail> {
     let stops = stops_of(alloc, cell_of(line, 2))?;
     let budget = cell_of(line, 1).parse()?;

@@ -19,12 +19,12 @@ forward to the end | 100 | b8000000c | go_on = 3 break; go_on = 6 break; go_on =
 back to the start | 100 | b8000000c | seek 13 = yes 13; go_back = 9 break; go_back = 6 break; go_back = 3 break; go_back = 0 begin; step_back = 0 begin
 a watch forward | 100 | w80000100,4 | go_on = 3 change; step = 3 change; go_on = 3 change; seek 4 = yes 4; go_on = 6 change; seek 7 = yes 7; step = 8 done
 a watch back | 100 | w80000100,4 | seek 13 = yes 13; go_back = 10 change; step_back = 10 change; seek 9 = yes 9; go_back = 7 change; seek 6 = yes 6; go_back = 4 change
-a byte that stays | 100 | w80000101,3 | go_on = 13 exit 0; go_back = 0 begin
+a byte that does not change | 100 | w80000101,3 | go_on = 13 exit 0; go_back = 0 begin
 bytes in no region | 100 | w0,10000 | go_on = 13 exit 0
 a break before a watch | 100 | b80000010 w80000100,4 | seek 13 = yes 13; go_back = 10 break; go_back = 10 change; seek 5 = yes 5; go_on = 6 change
-an access to a byte that stays | 100 | a80000102,1 | go_on = 3 change; seek 4 = yes 4; go_on = 6 change; step_back = 5 done; go_back = 4 change
-no access to the neighbour | 100 | a80000104,1 | go_on = 13 exit 0; go_back = 0 begin
-a store is no read | 100 | r80000100,4 | go_on = 13 exit 0; go_back = 0 begin
+an access to a byte that does not change | 100 | a80000102,1 | go_on = 3 change; seek 4 = yes 4; go_on = 6 change; step_back = 5 done; go_back = 4 change
+no access to the next bytes | 100 | a80000104,1 | go_on = 13 exit 0; go_back = 0 begin
+a store is not a read | 100 | r80000100,4 | go_on = 13 exit 0; go_back = 0 begin
 steps | 100 | b80000004 | step = 1 done; step = 2 done; step_back = 1 done; step_back = 0 done; step_back = 0 begin
 seeks | 100 | b80000004 | seek 14 = no 0; seek 13 = yes 13; seek 100 = no 13; seek 101 = no 13; seek 2 = yes 2
 the budget | 5 | b80000014 | go_on = 5 break; go_on = 5 budget; step = 5 budget; step_back = 4 done; seek 6 = no 4
@@ -33,10 +33,10 @@ no budget | 0 | b80000000 | go_on = 0 budget; go_back = 0 begin; seek 1 = no 0
 
 // Parses a watchpoint, written as address and number of bytes.
 fn watch_of(text: &str) -> Result<Watch, Fail> {
-    let (address, count) = text.split_once(',').ok_or("an address and a count")?;
+    let (address, count) = text.split_once(',').ok_or("expected an address and a count")?;
     let (address, count) = (hex_of(address)?, hex_of(count)?);
     if u64::from(address) + u64::from(count) > 1 << 32 {
-        return Err("a watch".into());
+        return Err("the watch does not fit in the address space".into());
     }
     Ok(Watch { address, count })
 }
@@ -59,7 +59,7 @@ pub fn stops_of(alloc: Global, text: &str) -> Result<Stops, Fail> {
         } else if let Some(range) = stop.strip_prefix('r') {
             reads.push(watch_of(range)?)?;
         } else {
-            let range = stop.strip_prefix('a').ok_or("a break or a watch")?;
+            let range = stop.strip_prefix('a').ok_or("expected a breakpoint or a watchpoint")?;
             accesses.push(watch_of(range)?)?;
         }
     }
@@ -82,7 +82,7 @@ pub fn history_of(alloc: Global, code: &str, budget: u32) -> Result<History, Fai
     let mut bus = Bus::new(alloc, map, Vec::new(alloc), Misaligned::Fault)?;
     let code = numbers(alloc, code)?;
     if code.len() > 0x100 || !bus.map().in_one(0x8000_0000, code.len() as u32) {
-        return Err("a step".into());
+        return Err("the code does not fit in memory".into());
     }
     bus.place(0x8000_0000, &code);
     let start = Start {
@@ -125,7 +125,7 @@ fn move_result(
         "go_back" => history.go_back(alloc, stops, &mut Alarm::never())?,
         "step" => history.step_forward(alloc, stops)?,
         "step_back" => history.step_back(alloc, stops)?,
-        _ => return Err("a move".into()),
+        _ => return Err("unknown move".into()),
     };
     let told = found_text(alloc, found)?;
     Ok(format!(in alloc; "{} {told}", history.current_step())?)
@@ -139,7 +139,7 @@ fn check_move(
     line: &str,
     part: &str,
 ) -> Result<(), Fail> {
-    let (asked, wanted) = part.split_once(" = ").ok_or("a move and an answer")?;
+    let (asked, wanted) = part.split_once(" = ").ok_or("expected a move and its result")?;
     let met = move_result(alloc, history, stops, asked)?;
     check_equal(line, met.as_str(), wanted)
 }

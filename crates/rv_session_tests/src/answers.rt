@@ -23,7 +23,7 @@ const LOOP: &str = "00000297 10028293 00300313 0062a023 fff30313 fe031ce3 X";
 const ANSWERS: &str = "\
 what the stub can do | LOOP | 100 | qSupported:xmlRegisters=i386 > PacketSize=4000;QStartNoAckMode+;ReverseStep+;ReverseContinue+;qXfer:features:read+;qXfer:exec-file:read+
 threads | LOOP | 100 | qC > QC1 / qfThreadInfo > m1 / qsThreadInfo > l / Hg1 > OK / qAttached > 0
-not known | LOOP | 100 | qHostInfo > empty / vMustReplyEmpty > empty / Z9,0,4 > empty / qC > QC1
+not supported | LOOP | 100 | qHostInfo > empty / vMustReplyEmpty > empty / Z9,0,4 > empty / qC > QC1
 the first stop | LOOP | 100 | ? > T05
 registers | LOOP | 100 | p20 > 00000080 / p21 > 00000000 / p0 > 00000000 / s > T05 / p20 > 04000080 / p5 > 00000080 / p21 > 01000000 / p24 > E01
 memory | LOOP | 100 | m80000000,4 > 97020000 / m80000ffe,8 > 0000 / m0,4 > E01 / m10000000,4 > E01 / m80000000,0 > E01 / mffffffff,9 > E01 / m > E01
@@ -37,11 +37,11 @@ a watch of accesses | LOOP | 100 | Z3,80000100,4 > OK / Z4,80000102,1 > OK / c >
 accesses forward and backward | LOOP | 100 | Z4,80000103,1 > OK / c > T05awatch:80000103; / s > T05awatch:80000103; / z4,80000103,1 > OK / s > T05 / p21 > 04000000 / Z4,80000103,1 > OK / bs > T05awatch:80000103; / bc > T05awatch:80000103; / p21 > 04000000 / c > T05awatch:80000103; / p21 > 06000000
 reads by their width | 00000297 00128383 00229383 0042a383 X | 100 | Z3,80000002,1 > OK / c > T05rwatch:80000002; / p21 > 02000000 / z3,80000002,1 > OK / Z3,80000004,4 > OK / c > T05rwatch:80000004; / p21 > 03000000 / z3,80000004,4 > OK / c > O656e640a & T05replaylog:end; / Z3,80000001,1 > OK / Z3,80000008,4 > OK / bc > T05rwatch:80000001; / p21 > 02000000
 reads of the stack | 00000297 00028113 4382 0001 X | 100 | Z3,80000003,1 > OK / c > T05rwatch:80000003; / p21 > 02000000 / s > T05rwatch:80000003; / z3,80000003,1 > OK / s > T05 / Z3,80000003,1 > OK / bs > T05rwatch:80000003; / bc > T05rwatch:80000003; / p21 > 03000000 / z3,80000003,1 > OK / bs > T05 / p21 > 02000000
-a store of what stands there | 00000297 1002a023 X | 100 | Z2,80000100,4 > OK / Z3,80000100,4 > OK / c > O656e640a & T05replaylog:end; / Z4,80000100,4 > OK / bc > T05awatch:80000100; / p21 > 02000000
-a change is told first, then a read | 00000297 0052a023 0002a383 X | 100 | Z4,80000000,4 > OK / Z3,80000002,2 > OK / Z2,80000000,8 > OK / c > T05watch:80000000; / p21 > 01000000 / P21=02000000 > OK / c > T05rwatch:80000002; / p21 > 02000000
-a fetch is no read | LOOP | 100 | Z3,80000000,20 > OK / Z4,80000000,20 > OK / c > O656e640a & T05replaylog:end; / bc > T05replaylog:begin;
+a store of the value that is already there | 00000297 1002a023 X | 100 | Z2,80000100,4 > OK / Z3,80000100,4 > OK / c > O656e640a & T05replaylog:end; / Z4,80000100,4 > OK / bc > T05awatch:80000100; / p21 > 02000000
+a change is reported first, then a read | 00000297 0052a023 0002a383 X | 100 | Z4,80000000,4 > OK / Z3,80000002,2 > OK / Z2,80000000,8 > OK / c > T05watch:80000000; / p21 > 01000000 / P21=02000000 > OK / c > T05rwatch:80000002; / p21 > 02000000
+a fetch is not a read | LOOP | 100 | Z3,80000000,20 > OK / Z4,80000000,20 > OK / c > O656e640a & T05replaylog:end; / bc > T05replaylog:begin;
 no read where the run ends | 00000297 0012a383 | 100 | Z3,80000000,8 > OK / Z4,80000000,8 > OK / c > O656e640a & T0a / p20 > 04000080 / s > O656e640a & T0a / bs > T05
-the console is no memory | 100002b7 0042a383 0002a383 X | 100 | Z3,10000004,4 > E.malformed / Z4,10000000,8 > E.malformed / c > O656e640a & T05replaylog:end;
+the console is not memory | 100002b7 0042a383 0002a383 X | 100 | Z3,10000004,4 > E.malformed / Z4,10000000,8 > E.malformed / c > O656e640a & T05replaylog:end;
 a range | LOOP | 100 | vCont;r80000000,8000000c:1;c > T05 / p21 > 03000000 / vCont;r8000000c,80000018 > T05 / p21 > 0c000000 / p20 > 18000080
 a range with a break | LOOP | 100 | Z0,80000008,4 > OK / vCont;r80000000,8000000c > T05 / p21 > 02000000
 the budget | LOOP | 5 | vCont;c > O656e640a & T18 / p21 > 05000000 / s > O656e640a & T18 / bs > T05 / p21 > 04000000
@@ -58,9 +58,9 @@ to a byte of the script | 100002b7 0002a383 0002a383 X | 100 | P23=01000000 > OK
 a breakpoint of the program | 00100073 | 100 | c > O656e640a & T06 / p21 > 00000000 / s > O656e640a & T06
 no instruction | 00000297 00000000 | 100 | c > O656e640a & T04 / p21 > 01000000 / bc > T05replaylog:begin;
 a misaligned load | 00000297 0012a383 | 100 | c > O656e640a & T0a / p20 > 04000080
-a call of nothing | 000000e7 | 100 | c > O656e640a & T0b / p20 > 00000000 / bs > T05 / p20 > 00000080
-a store into nothing | 00602023 | 100 | c > O656e640a & T0b
-a call that there is not | 00000073 | 100 | c > O656e640a & T0c
+a call to an address without memory | 000000e7 | 100 | c > O656e640a & T0b / p20 > 00000000 / bs > T05 / p20 > 00000080
+a store to an address without memory | 00602023 | 100 | c > O656e640a & T0b
+an unknown call | 00000073 | 100 | c > O656e640a & T0c
 ";
 
 // The first packets of LLDB 19 and the replies to them, as recorded.
@@ -184,12 +184,12 @@ fn bus_of(alloc: Global, code: &str) -> Result<Bus, Fail> {
         size: 0x1000,
         writable: true,
     };
-    let map = Map::of(&[memory]).map_err(|_| "a map")?;
+    let map = Map::of(&[memory]).map_err(|_| "invalid memory map")?;
     let script = Vec::from_slice(alloc, b"hi")?;
     let mut bus = Bus::new(alloc, map, script, Misaligned::Fault)?;
     let code = numbers(alloc, if code == "LOOP" { LOOP } else { code })?;
     if code.len() > 0x100 || !bus.map().in_one(0x8000_0000, code.len() as u32) {
-        return Err("a place".into());
+        return Err("the code does not fit in memory".into());
     }
     bus.place(0x8000_0000, &code);
     Ok(bus)
@@ -264,7 +264,7 @@ fn check_response(
     requires { IsReady (start_of end.now.start) session.old }
     ensures { OnOk result (IsReady (start_of end.now.start) session.new) }
 {
-    let (asked, wanted) = part.split_once(" > ").ok_or("a request and an answer")?;
+    let (asked, wanted) = part.split_once(" > ").ok_or("expected a request and its reply")?;
     let met = response_to_body(alloc, session, end, asked)?;
     let wanted = framed(alloc, wanted)?;
     check_equal(line, met.as_str(), std::str::from_utf8(wanted.as_slice())?)
@@ -295,7 +295,7 @@ fn check_recording(alloc: Global, session: &mut Session, end: &End, line: &str) 
     requires { IsReady (start_of end.now.start) session.old }
     ensures { OnOk result (IsReady (start_of end.now.start) session.new) }
 {
-    let (heard, wanted) = line.split_once(" > ").ok_or("a line of a recording")?;
+    let (heard, wanted) = line.split_once(" > ").ok_or("expected bytes and their reply")?;
     let wanted = if wanted == "nothing" { "" } else { wanted };
     let met = response_text(alloc, session, end, heard.as_bytes())?;
     check_equal(line, met.as_str(), wanted)

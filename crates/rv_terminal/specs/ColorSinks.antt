@@ -48,7 +48,7 @@ IsColoredAs colors.Plain before plain out = out ≡ plain
 IsColoredAs colors.Colored None plain out = ⊤
 IsColoredAs colors.Colored (Some before) plain out = HoldsForBoth (IsColored before) plain out
 
--- like `IsColoredAs`, but output with colors may end with a prefix of an escape sequence, in which a write failed
+-- like `IsColoredAs`, but output with colors may end with a prefix of an escape sequence, the rest of which was not written
 abbrev pub IsPartlyColoredAs : Colors → Option (List ℕ) → Option (List ℕ) → Option (List ℕ) → Type 0
 IsPartlyColoredAs colors.Plain before plain out = out ≡ plain
 IsPartlyColoredAs colors.Colored None plain out = ⊤
@@ -63,7 +63,7 @@ pub record ColorSinkView (S : Type 0) : Type 0 where
   pub state : OutputState
 
 -- the results that were written, without colors; `before` is what the underlying sink had accepted before, and the last argument what it
--- has accepted now
+-- has accepted now; `None` if this is not known
 abbrev pub results_of : Colors → Option (List ℕ) → Option (List ℕ) → Option (List ℕ)
 results_of colors.Plain before out = out
 results_of colors.Colored None out = None

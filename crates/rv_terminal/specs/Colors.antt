@@ -84,8 +84,8 @@ line_mark position.Word byte = if is_space byte || is_line_feed byte then mark.E
 line_mark position.Line byte = if is_line_feed byte then mark.End else mark.Nothing
 line_mark position.Rest byte = mark.Nothing
 
--- the change of color before a byte; there is one, too, before an escape sequence of the text itself, which tells it from those that were
--- added
+-- the change of color before a byte; there is also one before each escape sequence of the text itself, which distinguishes it from the
+-- added ones
 abbrev pub mark_before : LinePosition → ℕ → Mark
 mark_before here byte = if is_escape byte then mark.End else line_mark here byte
 
@@ -118,7 +118,7 @@ colored here (byte ∷ rest) = mark_text (mark_before here byte) ++ byte ∷ col
 abbrev pub line_start : LinePosition
 line_start = position.Margin 0
 
--- ---- removing the colours
+-- ---- removing the colors
 
 -- where a byte of a text with colors is: in the text, in an escape sequence, or directly after one
 pub data ByteLocation : Type 0 where

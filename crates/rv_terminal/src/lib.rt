@@ -1,7 +1,7 @@
-//! What a terminal shows beside the results: their colors, and a line with the number of jobs done.
+//! What a terminal shows in addition to the results: their colors, and a line with the number of jobs done.
 //!
 //! A [`ColorSink`] passes results on to another sink, with a terminal's escape sequences or without ([`Colors`]). Contracts describe the
-//! output without colors in both cases. Removing the escape sequences from a colored text gives the text again
+//! output without colors in both cases. Removing the added escape sequences from a colored text returns the original text
 //! ([`colors_can_be_taken_out`]).
 //!
 //! A [`Progress`] counts rows and shows the counts in one line, which is redrawn in place. A [`ProgressReporter`] counts each row that it

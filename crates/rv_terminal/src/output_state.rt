@@ -91,8 +91,8 @@ fn write_colored<S: Sink>(
     (at, OutputState::Colored(here))
 }
 
-// Writes the escape sequence before the first byte, if it has one, and then bytes up to the next change of color. Returns how many bytes
-// were written.
+// Writes the escape sequence before the first byte, if it has one, and then at least one byte, but none after the next change of color.
+// Returns how many bytes were written, or an error if a write failed.
 fn write_span<S: Sink>(
     sink: &mut S,
     position: LinePosition,

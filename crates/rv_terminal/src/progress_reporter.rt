@@ -46,7 +46,7 @@ impl<'r, 't, 'p, 'k, R: Clock + Wait, T: RowReporter, W: Write + Drop> RowReport
     for ProgressReporter<'r, 't, 'p, 'k, R, T, W> {
     ghost line = { λ counting index row. T.line counting.reporter.now index row };
 
-    // Appends the other reporter's text of the row of the job at an index, and counts the row.
+    // Appends the other reporter's text about the row of the job at index `index`, and counts the row.
     fn push_row_text(
         &self,
         alloc: Global,

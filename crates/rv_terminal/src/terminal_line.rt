@@ -19,7 +19,7 @@ pub(crate) struct Counts {
 // Moves to the start of the line, and erases the line.
 const CLEAR: &[u8] = b"\r\x1b[K";
 
-/// A line on a terminal that is redrawn in place. Each call says whether the terminal accepted all bytes.
+/// A line on a terminal that is redrawn in place. A call that writes returns an error if the terminal did not accept all bytes.
 #[derive(Drop)]
 pub(crate) struct Line<W: Drop> {
     out: W,
@@ -52,8 +52,8 @@ impl<W: Write + Drop> Line<W> {
         (line.out, erased)
     }
 
-    /// Shows the counts in place of earlier ones, unless other output ends in the middle of a line. Counts only grow, so they cover the
-    /// earlier ones.
+    /// Shows the counts in place of earlier ones, unless other output ends in the middle of a line. Counts only grow, so their text covers
+    /// the earlier text.
     pub(crate) fn show_counts(&mut self, alloc: Global, counts: Counts) -> Result<(), WriteError>
         // If other output ends in the middle of a line, nothing is written.
         ensures unchanged { IsTrue self.old.is_blocked → self.new ≡ self.old }

@@ -112,7 +112,7 @@ impl<'a, 'k, R: Wait, S: Sink + Drop, W: Write + Drop> TerminalSink<'a, 'k, R, S
     }
 }
 
-// The result of a write to a sink, and whether the terminal accepted the changes of the line around it.
+// The result of a write to a sink, and whether the terminal accepted the changes of the progress line around the write.
 #[derive(Drop)]
 struct BesideLineResult {
     put: Result<usize, SinkFailed>,

@@ -26,8 +26,8 @@ fn main(rt: HostRuntime) -> ExitCode {
     ExitCode::from(status)
 }
 
-// Returns the process's own arguments. It is a separate function because the code before the loop of steps decides where that loop is
-// placed: docs/PERFORMANCE.md, "What must hold of the machine code".
+// Returns the process's own arguments. It is a separate function, which is not inlined, because the code before the hot loop decides at
+// which address the loop begins: docs/PERFORMANCE.md, "Check the machine code".
 #[inline(never)]
 fn process_args(rt: &(impl Env + AllocGlobal)) -> io::Result<Vec<String>> {
     let mut texts = Vec::new(rt.alloc());

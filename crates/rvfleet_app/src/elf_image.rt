@@ -20,7 +20,7 @@ use rv_files::{Sink, Store};
 use rv_fleet::{JobList, gather, run_one};
 use std::alloc::Global;
 
-/// Why hexadecimal digits are not a console input.
+/// Why hexadecimal digits do not encode a console input.
 #[derive(Clone, Copy, Debug, PartialEq, Eq)]
 pub enum ScriptError {
     /// They are invalid: not hexadecimal, or an odd number of them, or they encode more than 65,536 bytes.

@@ -1,4 +1,4 @@
-//! Writes a report, and finds its exit status.
+//! Writing a report, and its exit status.
 
 ghost use Rattle.std.specs.Prelude.{true, ◌≡◌, ◌≤◌, IfErr, IfOk, OnErr, OnOk};
 ghost use Rattle.rv_files.specs.Counts.{HasIncreased};

@@ -91,7 +91,7 @@ fn failure_line(failure: Failure) -> &'static str
     }
 }
 
-// Writes a line on standard error. If this fails, there is no further effect.
+// Writes a line on standard error. A failed write is ignored.
 fn write_error_line<E: Sink>(errors: &mut E, line: &str)
     ensures { IsLineWritten (E.accepted errors.old) (E.accepted errors.new)
         (E.failure_count errors.old) (E.failure_count errors.new) line.now }

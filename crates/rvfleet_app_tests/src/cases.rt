@@ -44,8 +44,8 @@ fn push_word(text: &mut String, word: &str) -> Result<(), AllocError> {
     text.push_str(word)
 }
 
-// Returns the part of a report's line that a summary has: the whole last line, the rest of a line whose first word is in `view`, and
-// nothing of any other line.
+// Returns what a summary has of a report's line: the whole line if it is the last one, the rest of a line whose first word is in `view`,
+// and an empty text for any other line.
 fn summary_part<'a>(view: &str, line: &'a str) -> &'a str {
     match line.split_once(' ') {
         Some(("done", _)) => line,
@@ -119,7 +119,7 @@ fn check_numbered(
     check_row(rt, alloc, ask, wanted, row.as_str())
 }
 
-// Checks the outputs for a line, which is one row or stands for several numbered rows.
+// Checks the outputs for a line, which is one row or represents several numbered rows.
 fn check_line(
     rt: &(impl Threads + Wait),
     alloc: Global,

@@ -22,11 +22,11 @@ a file | image = 'code 100002b7 04100513 00a2a023 X', expect_console_file = 'byt
 a longer file | image = 'code 100002b7 04100513 00a2a023 X', expect_console_file = 'bytes 0041' | 1 fail
 an empty file | image = 'one', expect_console_file = 'bytes' | 0 pass
 an empty file, and a byte | image = 'code 100002b7 04100513 00a2a023 X', expect_console_file = 'bytes' | 1 fail
-a byte that is no text | image = 'code 100002b7 0ff00513 00a2a023 X', expect_console_file = 'bytes ff' | 0 pass
+a byte that is not UTF-8 | image = 'code 100002b7 0ff00513 00a2a023 X', expect_console_file = 'bytes ff' | 0 pass
 a console and an exit | image = 'one', expect_console = '', expect_exit = 5 | 0 pass
 a console, and no such exit | image = 'one', expect_console = '', expect_exit = 6 | 1 fail
-a console of a fault | image = 'code 100002b7 04100513 00a2a023 9002', expect_console = 'A' | 0 pass
-a console of a used budget | image = 'code a001', expect_console = '' | 0 pass
+a console before a fault | image = 'code 100002b7 04100513 00a2a023 9002', expect_console = 'A' | 0 pass
+a console of a run that exhausts its budget | image = 'code a001', expect_console = '' | 0 pass
 a budget | image = 'code a001', expect_end = 'budget' | 0 pass
 a budget, and an exit | image = 'one', expect_end = 'budget' | 1 fail
 a budget, and a fault | image = 'code 9002', expect_end = 'budget' | 1 fail

@@ -123,7 +123,7 @@ const BROKEN_OFF: &str = "\
 00500513
 ";
 
-// At most one byte more than an image may have is read: the number of bytes of the input | how many are left
+// The program reads at most one byte more than an image may have. The number of bytes of the input | how many are left
 const LEFT_INPUT: &str = "\
 1|0|rvfleet raw --budget 3||||$0
 ====

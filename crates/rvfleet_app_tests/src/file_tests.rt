@@ -51,7 +51,7 @@ pages.bin| 01 02 03 5a*8190 | these bytes
  spaced | 01 02 03 | these bytes
 ";
 
-// Writes the file of a line, checks that reading it has the result of the line, removes the file, and checks that it is then not found.
+// Writes the file of a line, checks that reading it has the expected result, removes the file, and checks that it is then not found.
 fn check_file_row(rt: &HostRuntime, line: &str) -> Result<(), Fail> {
     let path = line.split('|').next().unwrap_or("");
     let bytes = numbers(rt.alloc(), cell_of(line, 1))?;

@@ -88,9 +88,9 @@ empty string table | sign 312=00000000 | 100 | $S | refused no-begin | 0 | -
 begin between two words | sign 152=80000029 | 100 | $S | refused signature-range | 0 | -
 ";
 
-// A job for each number of bytes, from 1 to 332, to which an image of 332 bytes is cut, and then one for no bytes. The output shows how
-// each ends, and its steps: cut in the header, in the program headers, in the segment, after the segment, and not cut. The signature | how
-// the image ends if only its sections are cut off, and its steps.
+// A job for each length, from 1 to 332 bytes, to which an image of 332 bytes is truncated, and then one for an empty file. The output shows
+// how each ends, and its steps: truncated in the header, in the program headers, in the segment, after the segment, and not at all. The
+// signature | how the image ends if only its sections are cut off, and its steps.
 const CUT_IMAGES: &str = "\
 2|end steps|rvfleet run jobs --workers 2 --group 3| + 332 times [[job]]/name = '%'/image = 'sign %'/budget = 100/$0/ \
 + [[job]]/name = '0'/image = 'sign 0'/budget = 100/$0/
@@ -102,7 +102,7 @@ $S | refused section-table 0
  | exit 0 9
 ";
 
-// To how many bytes a list is cut | the error output
+// The number of bytes to which a list is truncated | the error output
 const CUT_LISTS: &str = "\
 41|1|rvfleet run jobs| + $0 bytes of [[job]]/name = \"a\"/image = \"b\"/budget = 3/
 ====
@@ -151,7 +151,7 @@ const CUT_LISTS: &str = "\
 40 | job 0: not-toml
 ";
 
-/// To how many bytes the list is cut: none cut off, or only the last line feed.
+/// The number of bytes to which the list is truncated: all except the last line feed, or all.
 const WHOLE_LISTS: &str = "\
 2|1|rvfleet run jobs| + $0 bytes of [[job]]/name = \"a\"/image = \"b\"/budget = 3/
 ====

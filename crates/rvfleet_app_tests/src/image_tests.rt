@@ -52,7 +52,7 @@ c.srli with bit 12 | 9101 | 10 | fault illegal pc=80000000 value=00009101 | 0 | 
 c.fld | 2000 | 10 | fault illegal pc=80000000 value=00002000 | 0 | -
 c.slli with bit 12 | 1082 | 10 | fault illegal pc=80000000 value=00001082 | 0 | -
 c.lwsp into x0 | 4002 | 10 | fault illegal pc=80000000 value=00004002 | 0 | -
-the halfword 0 behind a hint | 0005 | 10 | fault illegal pc=80000002 value=00000000 | 1 | -
+the halfword 0 after a hint | 0005 | 10 | fault illegal pc=80000002 value=00000000 | 1 | -
 c.jr of x0 | 8002 | 10 | fault illegal pc=80000000 value=00008002 | 0 | -
 c.ebreak | 9002 | 10 | fault breakpoint pc=80000000 value=00000000 | 0 | -
 c.j to itself | a001 | 1000 | budget | 1000 | -

@@ -23,8 +23,8 @@ const NO_LIST: &str = "\
 16777216 | job 0: not-toml
 ";
 
-// The image leaves its signature of 65,536 words 0, and the golden signature has a line for each word. Its path, which is short or the
-// longest, is a text repeated: how often | the text
+// The image has a signature of 65,536 words, which all stay 0, and the golden signature has a line for each word. The path of the golden
+// signature, which is short or has the maximum length, is a repeated text: how often | the text
 const LONGEST_SIGNATURE: &str = "\
 2|signature verdict|rvfleet run jobs|[[job]]/name = 'a'/image = 'long.elf'/budget = 100/$S/expect_signature = ' + $0 \
 times $1 + '/|long.elf = sign 152=80040000 168=80080000

@@ -13,7 +13,7 @@ struct CountingWriter {
 }
 
 impl Write for CountingWriter {
-    // Counts the write, and accepts bytes, or fails if this is the write that fails.
+    // Counts the write, and accepts at most four bytes, or fails if this is the write that fails.
     fn write(&mut self, bytes: &[u8]) -> io::Result<usize> {
         self.writes = self.writes.saturating_add(1);
         if self.writes == self.fails_at {

@@ -136,7 +136,8 @@ unknown-call | code 00000013 04000893 00000073 |  | fail fail fail fail fail fai
 fetch-misaligned | code 00000013 0020006f | , isa = 'rv32im' | fail fail fail fail fail fail fail fail fail fail pass
 ";
 
-// All other jobs are compared with the first one. The rows of this table and of the next ones are numbers of jobs claimed at once.
+// All other jobs are compared with the first one. The rows of this table and of the next ones are numbers of jobs that a worker takes at a
+// time.
 const NAMED_BY_MANY: &str = "\
 3|verdict|rvfleet run jobs --workers 2 --group $0|job = [{name = '0', image = 'one', budget = 3}, {name = '1', image \
 = 'one', budget = 4, same_as = '0'}, \

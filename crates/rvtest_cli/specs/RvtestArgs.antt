@@ -51,7 +51,7 @@ pub record RunOptions : Type 0 where
   pub stamp : Option Text
   -- the maximum number of threads; `None` for one per processor
   pub workers : Option ℕ
-  -- the number of consecutive jobs that a thread claims at once
+  -- the number of consecutive jobs that a thread takes at a time
   pub group : ℕ
   -- the step budget that overrides each job's own
   pub budget : Option ℕ
@@ -118,7 +118,7 @@ pub record DiffOptions : Type 0 where
   pub partial : Bool
   -- whether to report different steps, fault locations and fault values, too
   pub steps : Bool
-  -- if set, jobs that take over this many percent more steps are reported, too
+  -- if set, jobs whose number of steps grew by more than this percentage are reported, too
   pub slower : Option ℕ
   pub color : Option Text
 
@@ -177,7 +177,7 @@ pub data Words : Type 0 where
 abbrev pub requested_budget : List Row → Option ℕ
 requested_budget rows = number_value (codes "budget") 1 max_budget rows
 
--- the arguments of a command that runs jobs of `list`, of which a thread claims `group` at once; the other arguments are in the matches of
+-- the arguments of a command that runs jobs of `list`, of which a thread takes `group` at a time; the other arguments are in the matches of
 -- `clap`; an option is not set if it is not given or the command does not have it
 unfoldable pub run_options : Text → ℕ → List Row → RunOptions
 run_options list group rows = record {
@@ -217,8 +217,8 @@ rvtest_run_request rows = option_and_then (λ list. option_map (λ group. run (r
 abbrev pub list_request : List Row → Option Words
 list_request rows = option_map (λ list. names (run_options list 1 rows)) (first_of (codes "list") rows)
 
--- the request of `explain` for the job `name` of `list`, with its `last` last instructions; the other arguments are in the matches of
--- `clap`
+-- the request of `explain` for the job `name` of `list`, which shows its last `last` instructions; the other arguments are in the matches
+-- of `clap`
 abbrev pub explain_request_of : Text → Text → List Row → ℕ → Words
 explain_request_of list name rows last = explain (record {
   list = list;
@@ -251,7 +251,7 @@ abbrev pub check_request : List Row → Option Words
 check_request rows = option_map (λ list. check list (first_of (codes "root") rows))
     (first_of (codes "list") rows)
 
--- the request of `accept` for `list`, of which a thread claims `group` jobs at once; the other arguments are in the matches of `clap`
+-- the request of `accept` for `list`, of which a thread takes `group` jobs at a time; the other arguments are in the matches of `clap`
 abbrev pub accept_request_of : Text → List Row → ℕ → Words
 accept_request_of list rows group = accept (record {
   run = run_options list group rows;
@@ -313,7 +313,7 @@ counts_request rows = counts (record {
   out = first_of (codes "out") rows;
 })
 
--- the request of `cover` for `list`, of which a thread claims `group` jobs at once; the other arguments are in the matches of `clap`
+-- the request of `cover` for `list`, of which a thread takes `group` jobs at a time; the other arguments are in the matches of `clap`
 abbrev pub cover_request_of : Text → List Row → ℕ → Words
 cover_request_of list rows group = cover (record { run = run_options list group rows; csv = is_flag_set (codes "csv") rows })
 
@@ -330,7 +330,7 @@ chosen_names rows = if is_option_given (codes "name") rows then argument_values 
 abbrev pub named_run_options : Text → ℕ → List Row → RunOptions
 named_run_options list group rows = record (run_options list group rows) { only = chosen_names rows }
 
--- the request of `profile` for `list`, of which a thread claims `group` jobs at once; the other arguments are in the matches of `clap`
+-- the request of `profile` for `list`, of which a thread takes `group` jobs at a time; the other arguments are in the matches of `clap`
 abbrev pub profile_request_of : Text → List Row → ℕ → Words
 profile_request_of list rows group = profile (record {
   run = named_run_options list group rows;
@@ -347,7 +347,8 @@ profile_request rows = option_and_then (λ list. option_map (profile_request_of 
 abbrev pub help_request : List Row → Option Words
 help_request rows = option_map help (first_of (codes "topic") rows)
 
--- the request of the subcommand `name` with these matches of `clap`, or `None` if an argument is missing or invalid
+-- the request of the subcommand `name` with these matches of `clap`, or `None` if an argument is missing or invalid, or if there is no such
+-- subcommand
 abbrev pub subcommand_request : Text → List Row → Option Words
 subcommand_request name rows = if bytes_eq name (codes "run") then rvtest_run_request rows
     else if bytes_eq name (codes "list") then list_request rows
@@ -365,7 +366,7 @@ subcommand_request name rows = if bytes_eq name (codes "run") then rvtest_run_re
     else if bytes_eq name (codes "help") then help_request rows
     else None
 
--- the request of the subcommand that `clap` matched, with its matches, or `None` if there is no subcommand, or an argument is missing or
+-- the request of the subcommand that `clap` matched, with its matches, or `None` if there is no subcommand, or if an argument is missing or
 -- invalid
 abbrev pub matched_request : Option (Text × List Row) → Option Words
 matched_request = option_and_then (λ found. subcommand_request found.0 found.1)
@@ -539,7 +540,7 @@ diff_misuse rows = if is_flag_set (codes "steps") rows && is_option_given (codes
 abbrev pub show_misuse : List Row → Option Misuse
 show_misuse rows = if is_color_unknown rows then Some misuse.UnknownColor else suite_misuse rows
 
--- the kind of error as which this misuse is reported, as a list; empty if there is no misuse
+-- the kind of the error that reports this misuse, as a list; empty if there is no misuse
 abbrev pub misuse_kinds : Option Misuse → Kinds
 misuse_kinds None = []
 misuse_kinds (Some misuse.StampAlone) = kind.MissingRequiredArgument ∷ []

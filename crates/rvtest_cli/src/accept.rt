@@ -27,7 +27,8 @@ pub struct AcceptArgs<'a> {
     pub outside: bool,
 }
 
-/// Returns the request of `accept` with these values, or an error if options are misused.
+/// Returns the request of `accept` with these values, or an error if options are misused; `None` if the list is missing or `--group` is
+/// invalid.
 pub(crate) fn accept_request<'a>(
     alloc: Global,
     values: &ArgMatches<'a>,
@@ -41,7 +42,7 @@ pub(crate) fn accept_request<'a>(
     }
 }
 
-// Returns the request of `accept` with these values, in which no option is misused.
+// Returns the request of `accept` with these values, in which no option is misused; `None` if the list is missing or `--group` is invalid.
 fn valid_accept_request<'a>(
     alloc: Global,
     values: &ArgMatches<'a>,

@@ -9,7 +9,7 @@ use clap::error::ErrorKind;
 use clap::{Command, Error};
 use std::alloc::{AllocError, Global};
 
-/// Why the arguments make no request: they have an error, or they ask for the help or the version.
+/// Why the arguments make no request: they have an error, or they request the help or the version.
 #[derive(Drop)]
 pub enum ArgsError {
     /// Memory ran out.

@@ -38,7 +38,7 @@ pub(crate) enum Argument<'a> {
     Flag(&'a str, Option<char>, &'a str),
     /// An option with a number: its name, the letter of its short form, if any, its help, its range, and its default value, if any.
     Number(&'a str, Option<char>, &'a str, NumberRange, &'a [&'a str]),
-    /// The option `--group`: the number of consecutive jobs that a thread claims at once.
+    /// The option `--group`: the number of consecutive jobs that a thread takes at a time.
     Group,
 }
 

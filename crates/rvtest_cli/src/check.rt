@@ -16,7 +16,7 @@ pub struct CheckArgs<'a> {
     pub root: Option<&'a str>,
 }
 
-/// Returns the request of `check` with these values.
+/// Returns the request of `check` with these values, or `None` if the list is missing.
 pub(crate) fn check_request<'a>(values: &ArgMatches<'a>) -> Option<Request<'a>>
     ensures { IsRequestFor (check_request (rows_of (found_of values.now))) result }
 {

@@ -18,7 +18,7 @@ pub struct ConsoleArgs<'a> {
     pub root: Option<&'a str>,
 }
 
-/// Returns the request of `console` with these values.
+/// Returns the request of `console` with these values, or `None` if the list or the name is missing.
 pub(crate) fn console_request<'a>(values: &ArgMatches<'a>) -> Option<Request<'a>>
     ensures { IsRequestFor (console_request (rows_of (found_of values.now))) result }
 {

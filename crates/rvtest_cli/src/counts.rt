@@ -19,7 +19,7 @@ pub struct CountsArgs<'a> {
     pub out: Option<&'a str>,
 }
 
-/// Returns the request of `counts` with these values.
+/// Returns the request of `counts` with these values; never `None`.
 pub(crate) fn counts_request<'a>(
     alloc: Global,
     values: &ArgMatches<'a>,

@@ -24,7 +24,8 @@ pub struct CoverArgs<'a> {
     pub csv: bool,
 }
 
-/// Returns the request of `cover` with these values, or an error if options are misused.
+/// Returns the request of `cover` with these values, or an error if options are misused; `None` if the list is missing or `--group` is
+/// invalid.
 pub(crate) fn cover_request<'a>(
     alloc: Global,
     values: &ArgMatches<'a>,
@@ -38,7 +39,7 @@ pub(crate) fn cover_request<'a>(
     }
 }
 
-// Returns the request of `cover` with these values, in which no option is misused.
+// Returns the request of `cover` with these values, in which no option is misused; `None` if the list is missing or `--group` is invalid.
 fn valid_cover_request<'a>(
     alloc: Global,
     values: &ArgMatches<'a>,

@@ -23,13 +23,13 @@ pub struct DiffArgs<'a> {
     pub partial: bool,
     /// Whether to report different steps, fault locations and fault values, too.
     pub steps: bool,
-    /// If set, jobs that take over this many percent more steps, from 0 to 1,000, are reported, too.
+    /// If set, jobs whose number of steps grew by more than this percentage, from 0 to 1,000, are reported, too.
     pub slower: Option<u32>,
     /// When to color the output: `always`, `never` or `auto`; `None` means `auto`.
     pub color: Option<&'a str>,
 }
 
-/// Returns the request of `diff` with these values, or an error if options are misused.
+/// Returns the request of `diff` with these values, or an error if options are misused; `None` if a report is missing.
 pub(crate) fn diff_request<'a>(
     alloc: Global,
     values: &ArgMatches<'a>,
@@ -43,7 +43,7 @@ pub(crate) fn diff_request<'a>(
     }
 }
 
-// Returns the request of `diff` with these values, in which no option is misused.
+// Returns the request of `diff` with these values, in which no option is misused; `None` if a report is missing.
 fn valid_diff_request<'a>(values: &ArgMatches<'a>) -> Option<Request<'a>>
     ensures { IsRequestFor (diff_request (rows_of (found_of values.now))) result }
 {

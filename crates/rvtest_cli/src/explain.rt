@@ -29,7 +29,8 @@ pub struct ExplainArgs<'a> {
     pub color: Option<&'a str>,
 }
 
-/// Returns the request of `explain` with these values, or an error if options are misused.
+/// Returns the request of `explain` with these values, or an error if options are misused; `None` if the list or the name is missing, or
+/// `--last` is invalid.
 pub(crate) fn explain_request<'a>(
     alloc: Global,
     values: &ArgMatches<'a>,
@@ -43,7 +44,8 @@ pub(crate) fn explain_request<'a>(
     }
 }
 
-// Returns the request of `explain` with these values, in which no option is misused.
+// Returns the request of `explain` with these values, in which no option is misused; `None` if the list or the name is missing, or `--last`
+// is invalid.
 fn valid_explain_request<'a>(values: &ArgMatches<'a>) -> Option<Request<'a>>
     ensures { IsRequestFor (explain_request (rows_of (found_of values.now))) result }
 {

@@ -20,7 +20,7 @@ pub struct GdbArgs<'a> {
     pub memory: Option<u32>,
 }
 
-/// Returns the request of `gdb` with these values.
+/// Returns the request of `gdb` with these values, or `None` if the list or the name is missing.
 pub(crate) fn gdb_request<'a>(values: &ArgMatches<'a>) -> Option<Request<'a>>
     ensures { IsRequestFor (gdb_request (rows_of (found_of values.now))) result }
 {

@@ -13,7 +13,7 @@ pub struct HelpArgs<'a> {
     pub topic: &'a str,
 }
 
-/// Returns the request of `help` with these values.
+/// Returns the request of `help` with these values, or `None` if the topic is missing.
 pub(crate) fn help_request<'a>(values: &ArgMatches<'a>) -> Option<Request<'a>>
     ensures { IsRequestFor (help_request (rows_of (found_of values.now))) result }
 {

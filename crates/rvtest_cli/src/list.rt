@@ -13,7 +13,7 @@ use clap::ArgMatches;
 use rv_cli::values::text_value;
 use std::alloc::Global;
 
-/// Returns the request of `list` with these values, or an error if options are misused.
+/// Returns the request of `list` with these values, or an error if options are misused; `None` if the list is missing.
 pub(crate) fn list_request<'a>(
     alloc: Global,
     values: &ArgMatches<'a>,
@@ -27,7 +27,7 @@ pub(crate) fn list_request<'a>(
     }
 }
 
-// Returns the request of `list` with these values, in which no option is misused.
+// Returns the request of `list` with these values, in which no option is misused; `None` if the list is missing.
 fn valid_list_request<'a>(
     alloc: Global,
     values: &ArgMatches<'a>,

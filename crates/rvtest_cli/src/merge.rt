@@ -17,17 +17,17 @@ use std::alloc::Global;
 pub struct MergeArgs<'a> {
     /// The paths of the parts, which are the reports of all shards.
     pub parts: Vec<&'a str>,
-    /// The path of the merged report; `-` is standard output.
+    /// The path of the merged report; `-` is standard output. If `None`, the report goes to standard output, unless the JUnit XML does.
     pub report: Option<&'a str>,
     /// The path of the JUnit file; `-` is standard output.
     pub junit: Option<&'a str>,
-    /// The name of the JUnit suite; if `None`, it is derived from the report's path.
+    /// The name of the JUnit suite; if `None`, it is derived from the report's path, or is `merged` without a path.
     pub suite: Option<&'a str>,
     /// Whether only jobs whose verdict is `fail` count as failures.
     pub lenient: bool,
 }
 
-/// Returns the request of `merge` with these values, or an error if options are misused.
+/// Returns the request of `merge` with these values, or an error if options are misused; never `None`.
 pub(crate) fn merge_request<'a>(
     alloc: Global,
     values: &ArgMatches<'a>,
@@ -41,7 +41,7 @@ pub(crate) fn merge_request<'a>(
     }
 }
 
-// Returns the request of `merge` with these values, in which no option is misused.
+// Returns the request of `merge` with these values, in which no option is misused; never `None`.
 fn valid_merge_request<'a>(
     alloc: Global,
     values: &ArgMatches<'a>,

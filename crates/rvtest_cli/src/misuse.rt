@@ -65,7 +65,7 @@ impl Misuse {
         usage_error(alloc, command, self.misuse_error_kind(), self.misuse_text())
     }
 
-    // Returns the kind of error as which this misuse is reported.
+    // Returns the kind of the error that reports this misuse.
     fn misuse_error_kind(self) -> ErrorKind
         ensures { misuse_kinds (Some self) ≡ result ∷ [] }
     {
@@ -168,8 +168,8 @@ pub(crate) fn is_partial_alone(values: &ArgMatches<'_>) -> bool
     is_flag_set(values, "partial") && !is_option_given(values, "failed")
 }
 
-/// Returns the first misuse of the options for output files, or `None` if there is none: `--junit` has the path of a report, or `--suite`
-/// is misused.
+/// Returns the first misuse of the options for output files, or `None` if there is none: `--junit` has the path of `--report` or `--into`,
+/// or `--suite` is misused.
 pub(crate) fn files_misuse(values: &ArgMatches<'_>) -> Option<Misuse>
     ensures { result ≡ files_misuse (rows_of (found_of values.now)) }
 {

@@ -32,7 +32,8 @@ pub struct ProfileArgs<'a> {
     pub csv: bool,
 }
 
-/// Returns the request of `profile` with these values, or an error if options are misused.
+/// Returns the request of `profile` with these values, or an error if options are misused; `None` if the list is missing or `--group` is
+/// invalid.
 pub(crate) fn profile_request<'a>(
     alloc: Global,
     values: &ArgMatches<'a>,
@@ -46,7 +47,7 @@ pub(crate) fn profile_request<'a>(
     }
 }
 
-// Returns the request of `profile` with these values, in which no option is misused.
+// Returns the request of `profile` with these values, in which no option is misused; `None` if the list is missing or `--group` is invalid.
 fn valid_profile_request<'a>(
     alloc: Global,
     values: &ArgMatches<'a>,

@@ -105,7 +105,7 @@ fn is_command_help(word: &str, topic: &str) -> bool
     is_help(word) && topic != "keys" && topic != "--help" && topic != "-h"
 }
 
-// Parses arguments that request the help with `--help`. The help is returned as an error, as `clap` does.
+// Parses arguments that request the help with `--help`. The help is returned as an error, as `clap` does; a request is never returned.
 fn command_help<'a, T: AsStr>(alloc: Global, args: &[T]) -> Result<Option<Request<'a>>, ArgsError>
     ensures value { IfOk result (λ request. request ≡ None) }
     ensures kinds { FailsByKinds (fault_of rvtest_full_app (map T.text args.entry.now)) result }
@@ -117,7 +117,8 @@ fn command_help<'a, T: AsStr>(alloc: Global, args: &[T]) -> Result<Option<Reques
     }
 }
 
-// Parses arguments other than `help` and `help COMMAND`, and returns their request.
+// Parses arguments other than `help` and `help COMMAND`. Returns their request, `None` if they make none, or an error if `clap` finds one
+// or options are misused.
 fn read_request<'a, T: AsStr>(
     alloc: Global,
     args: &'a [T],
@@ -136,7 +137,8 @@ fn read_request<'a, T: AsStr>(
     }
 }
 
-// Returns the request of the subcommand that `clap` matched, or an error if options are misused. Returns `None` if there is no subcommand.
+// Returns the request of the subcommand that `clap` matched, or an error if options are misused. Returns `None` if there is no subcommand,
+// or if an argument is missing or invalid.
 fn matched_request<'a>(
     alloc: Global,
     matches: &ArgMatches<'a>,
@@ -150,7 +152,8 @@ fn matched_request<'a>(
     }
 }
 
-// Returns the request of the subcommand `name` with these values, or an error if options are misused.
+// Returns the request of the subcommand `name` with these values, or an error if options are misused. Returns `None` if an argument is
+// missing or invalid, or if there is no such subcommand.
 fn subcommand_request<'a>(
     alloc: Global,
     name: &str,

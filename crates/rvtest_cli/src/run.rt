@@ -39,7 +39,7 @@ pub struct RunArgs<'a> {
     pub stamp: Option<&'a str>,
     /// The maximum number of threads, from 1 to 64; `None` for one per processor.
     pub workers: Option<u32>,
-    /// The number of consecutive jobs that a thread claims at once, from 1 to 4,096.
+    /// The number of consecutive jobs that a thread takes at a time, from 1 to 4,096.
     pub group: u32,
     /// The step budget that overrides each job's own, from 1 to 1,000,000,000.
     pub budget: Option<u32>,
@@ -73,7 +73,8 @@ pub struct RunArgs<'a> {
     pub color: Option<&'a str>,
 }
 
-/// Returns the request of `run` with these values, or an error if options are misused.
+/// Returns the request of `run` with these values, or an error if options are misused; `None` if the list is missing or `--group` is
+/// invalid.
 pub(crate) fn rvtest_run_request<'a>(
     alloc: Global,
     values: &ArgMatches<'a>,
@@ -87,7 +88,7 @@ pub(crate) fn rvtest_run_request<'a>(
     }
 }
 
-// Returns the request of `run` with these values, in which no option is misused.
+// Returns the request of `run` with these values, in which no option is misused; `None` if the list is missing or `--group` is invalid.
 fn valid_run_request<'a>(
     alloc: Global,
     values: &ArgMatches<'a>,
@@ -103,7 +104,7 @@ fn valid_run_request<'a>(
     Ok(Some(Request::Run(run_args(alloc, values, list, group)?)))
 }
 
-/// Returns the arguments of a command that runs jobs of `list`, of which a thread claims `group` at once. The other arguments are in
+/// Returns the arguments of a command that runs jobs of `list`, of which a thread takes `group` at a time. The other arguments are in
 /// `values`.
 #[tactic(auto, unfolding(crate::specs::RvtestArgs::run_options))]
 pub(crate) fn run_args<'a>(

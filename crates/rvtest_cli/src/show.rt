@@ -28,7 +28,7 @@ pub struct ShowArgs<'a> {
     pub color: Option<&'a str>,
 }
 
-/// Returns the request of `show` with these values, or an error if options are misused.
+/// Returns the request of `show` with these values, or an error if options are misused; `None` if the report is missing.
 pub(crate) fn show_request<'a>(
     alloc: Global,
     values: &ArgMatches<'a>,
@@ -42,7 +42,7 @@ pub(crate) fn show_request<'a>(
     }
 }
 
-// Returns the request of `show` with these values, in which no option is misused.
+// Returns the request of `show` with these values, in which no option is misused; `None` if the report is missing.
 fn valid_show_request<'a>(values: &ArgMatches<'a>) -> Option<Request<'a>>
     ensures { IsRequestFor (show_request (rows_of (found_of values.now))) result }
 {

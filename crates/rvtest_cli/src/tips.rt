@@ -133,7 +133,7 @@ fn text_between<'a>(told: &'a str, front: &str, behind: &str) -> &'a str {
     }
 }
 
-// Returns the unknown option that an error is about, without its dashes. Otherwise returns an empty text.
+// If an error is about an unknown option, returns the option without its dashes, and otherwise an empty text.
 fn unknown_option(told: &str) -> &str {
     match told.split_once("'--") {
         Some((_, behind)) => match behind.split_once("' found") {
