@@ -19,7 +19,7 @@ optional_reason_text (Some reason) = codes ": " ++ printable_text reason
 abbrev pub after_steps_text : ℕ → List ℕ
 after_steps_text steps = codes " after " ++ count_text steps (codes "step")
 
--- how a run ended, and after how many steps; a fault has its pc, with `symbol`, and its value; a refusal has its reason
+-- how a run ended, and after how many steps; for a fault also its pc, with `symbol`, and its value; a refusal has its reason, and no steps
 unfoldable pub result_ending_text : RowEnd → ℕ → Option (List ℕ × ℕ) → Option (List ℕ) → List ℕ
 result_ending_text (ending.Exit code) steps symbol reason =
     codes "exit " ++ exit_code_text code ++ after_steps_text steps

@@ -36,7 +36,7 @@ pub fn ending_reason(
     }
 }
 
-// Returns the reason why a job was refused, or `None` if the file in question is not known. `unread` lists the files that could not be
+// Returns the reason why a job was refused, or `None` if it is not known which file caused it. `unread` lists the files that could not be
 // read, with the causes.
 #[tactic(auto, unfolding(crate::specs::RefusalReasons::refusal_reason))]
 fn refusal_reason(

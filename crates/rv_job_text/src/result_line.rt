@@ -116,7 +116,8 @@ fn push_now_passes(bytes: &mut Vec<u8>, path: &str) -> Result<(), AllocError>
     )
 }
 
-// Appends how a run ended, and after how many steps. A fault has its pc, with `symbol`, and its value; a refusal has its reason.
+// Appends how a run ended, and after how many steps. For a fault, also appends its pc, with `symbol`, and its value. A refusal has its
+// reason, and no steps.
 #[tactic(auto, unfolding(crate::specs::ResultLine::result_ending_text))]
 fn push_result_ending(
     alloc: Global,

@@ -220,8 +220,8 @@ fn reason_bytes(reason: &Option<Vec<u8>>) -> Option<&[u8]>
 }
 
 impl<'a> JobRow<'a> {
-    // Appends the lines of a failed run after its first: the unmet expectations, the end of the console and, if `last` is given, the trace
-    // of its end.
+    // Appends the lines of a failed run after its first line: the unmet expectations, the end of the console and, if `last` is given, the
+    // trace of its end.
     #[tactic(auto, unfolding(crate::specs::RowReporter::run_lines))]
     fn push_run_lines(
         &self,

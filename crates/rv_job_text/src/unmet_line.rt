@@ -117,7 +117,7 @@ fn push_unmet_expectation(
     }
 }
 
-/// Appends the expected exit code as `exit CODE`.
+/// Appends the expected exit code as `exit CODE`, or `an exit` if there is none.
 #[tactic(auto, unfolding(crate::specs::UnmetLines::expected_exit_text))]
 pub(crate) fn push_expected_exit(
     bytes: &mut Vec<u8>,
@@ -131,7 +131,7 @@ pub(crate) fn push_expected_exit(
     }
 }
 
-/// Appends the expected end: `budget used up`, or `fault KIND`.
+/// Appends the expected end: `budget used up` or `fault KIND`, or `another end` if there is none.
 #[tactic(auto, unfolding(crate::specs::UnmetLines::expected_end_text))]
 pub(crate) fn push_expected_end(
     bytes: &mut Vec<u8>,
