@@ -51,7 +51,8 @@ pub record AreNamesBy (name : ℕ → List ℕ) (nodes : List CallNode) (names :
   pub names_of_nodes : AreNamesOf nodes names
   pub each : (f : ℕ) → has_name (name_of f names) ≡ true → name_of f names ≡ Some (name f)
 
--- `names` has the names of the functions of `nodes`; all of these are below `next`, and `next` is one more than the last of them, or 0
+-- `names` has the names of the functions of `nodes`; all of these functions are below `next`, and `next` is one more than the last of them,
+-- or 0
 pub record AreNamedUpTo (name : ℕ → List ℕ) (nodes : List CallNode) (next : ℕ) (names : List FunctionName) : Type 0 where
   pub named : AreNamesBy name nodes names
   pub below : AllByRecursion (λ n. n.function < next) names
@@ -160,7 +161,8 @@ pub record IsTableWithStacks (plan : PlanView) (indices : List ℕ) (t : CountTa
   pub stacked : AreStacksOfJobsAt plan indices stacks
   pub sum : IsSumOfTables counts stacks t
 
--- the table of the jobs at the first `count` indices cannot be added to the table of the next job, because of this error
+-- for some number `count`, the table of the jobs at the first `count` indices cannot be added to the table of the next job, because of this
+-- error
 pub record IsNextTableNotAdded (plan : PlanView) (indices : List ℕ) (error : SumError) : Type 0 where
   pub count : ℕ
   pub within : count < length indices

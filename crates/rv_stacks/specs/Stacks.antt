@@ -21,7 +21,8 @@ use Rattle.rv_count_tables.specs.Trees.{all_steps, calls_at, own_steps_of, steps
 abbrev pub last_address : ℕ
 last_address = 0xffff_ffff
 
--- the number that represents code without a symbol: 0, or the last address if there is a symbol at 0, which the argument says
+-- the number that represents code without a symbol: 0, or the last address if there is a symbol at 0; the argument is the symbol at 0, if
+-- there is one
 abbrev pub no_symbol_number : Option (List ℕ × ℕ) → ℕ
 no_symbol_number None = 0
 no_symbol_number (Some symbol) = last_address
@@ -99,8 +100,8 @@ pub record AreStacksOf (function : ℕ → ℕ) (n : ℕ) (s : State) (nodes : L
   pub own : (f : ℕ) → own_steps_of f nodes ≡ executed_in_function function f n s
   pub all : all_steps nodes ≡ executed_steps n s
 
--- the result is the counts and the call tree of the run from this state within a budget of `n` steps, or `None` if there is an error
--- instead of the state because the job is refused
+-- the result is the counts and the call tree of the run from this state within a budget of `n` steps, or `None` if there is no state
+-- because the job is refused
 abbrev pub AreCountsAndStacksOfJob : (ℕ → ℕ) → ℕ → Result State Refusal → Option (List AddressCounts × List CallNode) → Type 0
 AreCountsAndStacksOfJob function n (Ok s) (Some both) = AreCountsOf n s both.0 × AreStacksOf function n s both.1
 AreCountsAndStacksOfJob function n (Ok s) None = ⊥

@@ -117,8 +117,8 @@ impl Children {
         next
     }
 
-    // Returns the number of the next child of the node `parent` outside its chain, by function and not below `from`, if that child still
-    // has entries; else `None`.
+    // Returns the number of the child of the node `parent` outside its chain that has the lowest function not below `from`, if this child
+    // still has entries; else `None`.
     fn next_unchained_child(&self, nodes: &[WalkNode], parent: usize, from: u64) -> Option<usize>
         ensures { IfSome result (λ number. IsNextChild parent from number nodes.now) }
     {
