@@ -57,7 +57,7 @@ fault_of_line jobs earlier line = if has_name line
     (fault_kind jobs (known_in earlier) (name_text line))
     else None
 
--- the first error, or the second one if there is no first one, or `None` if there is neither
+-- the first error if there is one, or else the second one, or `None` if there is neither
 abbrev pub first_of : Option KnownFault → Option KnownFault → Option KnownFault
 first_of (Some fault) other = Some fault
 first_of None other = other
