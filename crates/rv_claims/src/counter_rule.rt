@@ -34,7 +34,7 @@ impl Play<(), View> for Sit {
     ghost then = { IsSeatRequest };
 }
 
-/// A look: reads word 0. The seat learns that its draws and the draws that it has noted are in one history.
+/// A read of word 0. The seat learns that its draws and the draws that it has noted are in one history.
 pub(crate) struct Look;
 
 impl Play<(), View> for Look {
@@ -65,7 +65,7 @@ impl Split<View> for Note {
     ghost right = { note_of };
 }
 
-/// One seat with what two seats hold; the other is left empty.
+/// A join of two seats: one of them gets what both hold, and the other is left empty.
 pub(crate) struct JoinedSeat;
 
 impl Join<View> for JoinedSeat {
