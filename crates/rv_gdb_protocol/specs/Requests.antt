@@ -212,8 +212,8 @@ stoppoint_change change args = unwrap_or (option_map (λ stoppoint. or_refusal r
 
 -- ---- moves
 
--- the refusal of a move with arguments: `WouldChange` for an address, at which the move would begin, as the Bool says, and otherwise
--- `Malformed`
+-- the refusal of a move with arguments: `WouldChange` if the Bool says that they have an address, at which the move would begin, and
+-- otherwise `Malformed`
 abbrev pub refusal_of_address : Bool → Refusal
 refusal_of_address is_address = if is_address then refusal.WouldChange else refusal.Malformed
 

@@ -243,7 +243,8 @@ pub(crate) fn signal_move(step: Move, args: &[u8]) -> Request
     Request::Refused(refusal_of_address(parse_two_numbers(b';', args).is_some()))
 }
 
-// Returns the refusal of a move with arguments: `WouldChange` for an address, at which the move would begin, and otherwise `Malformed`.
+// Returns the refusal of a move with arguments: `WouldChange` if they have an address, at which the move would begin, and otherwise
+// `Malformed`.
 fn refusal_of_address(is_address: bool) -> Refusal
     ensures { result ≡ refusal_of_address is_address }
 {

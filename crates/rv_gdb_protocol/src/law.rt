@@ -31,7 +31,7 @@ pub fn packets_are_received()
         → IsReceivedAsOnePacket (packet_with_digits text high low) text (check_of_digits text high low) }
 {}
 
-/// Proves that if the parser receives a packet, the bytes up to there end with it.
+/// Proves that if the parser receives a packet, the bytes received so far end with this packet.
 pub fn received_packets_were_sent()
     ensures { (bytes text : List ℕ) (byte : ℕ) (sum : Checksum)
         → incoming_at (fold state_after_byte between_packets bytes) byte ≡ Some (Packet text sum)
@@ -49,7 +49,7 @@ pub fn parts_fit()
     ensures { (text : List ℕ) (part : Part) → length (escaped (part_text text part)) ≤ max_body }
 {}
 
-/// Proves that each packet of the protocol's grammar is parsed as the request that the grammar gives it.
+/// Proves that each packet of the protocol's grammar is parsed as the request that the grammar assigns to it.
 pub fn packets_are_parsed()
     ensures { (body : List ℕ) (request : Request) → IsRequest body request → request_of body ≡ request }
 {}
