@@ -27,7 +27,7 @@ unread_reference_path answers job =
     option_or (path_if_unread (signature_reference_bytes answers job) job.expect_signature)
     (path_if_unread (expected_console_bytes answers job) (console_path job.expect_console))
 
--- the reason why an image file that was read was refused, or `None` if it was not read
+-- the reason why the image in a file was refused, or `None` if the file was not read
 abbrev pub image_refusal_text : List PathResult → Job → ImageError → Option (List ℕ)
 image_refusal_text answers job error =
     option_map (λ file. image_reason job file error)

@@ -45,7 +45,8 @@ known_reason_text reason = if length reason == 0 then [] else codes " (" ++ prin
 abbrev pub now_passes_text : List ℕ → List ℕ
 now_passes_text path = codes "passes, but is listed as known to fail: remove it from " ++ printable_text path
 
--- how a run ended and, for a known failure, its reason; if the job passes although it is listed as a known failure, that message instead
+-- how a run ended and, for a known failure, its reason; for a job that passes although it is listed as a known failure, only a message that
+-- says so
 abbrev pub judged_ending_text : JudgementView → Row → Option (List ℕ × ℕ) → Option (List ℕ) → List ℕ
 judged_ending_text passed row symbol reason = result_ending_text row.ending row.steps symbol reason
 judged_ending_text failed row symbol reason = result_ending_text row.ending row.steps symbol reason

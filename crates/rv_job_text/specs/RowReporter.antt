@@ -32,7 +32,7 @@ pub record RowReporter : Type 0 where
   pub plan : PlanView
   -- the files that could not be read, with the causes
   pub unread : List UnreadablePath
-  -- the rule by which rows are failures
+  -- decides which rows are failures
   pub judging : JudgeView
   -- which rows are shown
   pub verbosity : Verbosity

@@ -58,7 +58,8 @@ unfoldable pub count_difference_text : ℕ → List ℕ → ℕ → List ℕ
 count_difference_text actual what expected =
     codes " in length: expected " ++ count_text expected what ++ codes ", found " ++ decimal actual
 
--- at which byte `actual` first differs from `expected`, or the lengths if one of them is the start of the other
+-- where `actual` first differs from `expected`: the byte, or the lengths if one of them is the start of the other; or that `expected` was
+-- not read
 unfoldable pub bytes_difference_text : Difference → List ℕ → List ℕ → List ℕ
 bytes_difference_text (difference.At offset) actual expected = byte_difference_text offset actual expected
 bytes_difference_text difference.Lengths actual expected = count_difference_text (length actual) (codes "byte") (length expected)
@@ -152,7 +153,7 @@ signatures_difference_text first words others difference.Lengths =
     count_difference_text (length (signature_words_or_empty words)) (codes "word") (length (signature_words_or_empty others))
 signatures_difference_text first words others difference.Missing = missing_signature_text words
 
--- the first difference between the row of a job and `other`, the row of the job that its `same_as` names
+-- the first difference between the row of a job and `other`, the row of the job that its `same_as` names; or that this job was not run
 unfoldable pub rows_difference_text : Option ℕ → Row → Row → SameAsDifference → List ℕ
 rows_difference_text first row other same_as.Ending =
     codes ", which " ++ row_end_text other.ending ++ codes "; this job "
@@ -163,7 +164,7 @@ rows_difference_text first row other (same_as.Signature difference) =
     codes ": signature differs" ++ signatures_difference_text first row.signature other.signature difference
 rows_difference_text first row other same_as.Missing = codes ", which was not run"
 
--- the message that the result of a job differs from the result of the job that its `same_as` names
+-- the expectation that a job has the same result as the job that its `same_as` names, and how the two results differ
 unfoldable pub same_difference_text : Option ℕ → Row → Option Row → SameAsDifference → List ℕ
 same_difference_text first row None difference = codes "the same result as another job, which was not run"
 same_difference_text first row (Some other) difference =

@@ -61,7 +61,8 @@ pub(crate) fn bytes_or_empty(file: Option<&[u8]>) -> &[u8]
     }
 }
 
-/// Appends at which byte `actual` first differs from `expected`, or the lengths if one of them is the start of the other.
+/// Appends where `actual` first differs from `expected`: the byte, or the lengths if one of them is the start of the other. If `expected`
+/// was not read, appends that.
 #[tactic(auto, unfolding(crate::specs::UnmetLines::bytes_difference_text))]
 pub(crate) fn push_bytes_difference(
     bytes: &mut Vec<u8>,

@@ -91,7 +91,7 @@ fn too_long_file_reason(alloc: Global, path: Option<&str>) -> Result<Option<Vec<
     }
 }
 
-// Returns the reason why an image file that was read was refused, or `None` if it was not read.
+// Returns the reason why the image in a file was refused, or `None` if the file was not read.
 fn image_refusal_text(
     alloc: Global,
     plan: &Plan,

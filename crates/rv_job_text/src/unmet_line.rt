@@ -148,8 +148,8 @@ pub(crate) fn push_expected_end(
     }
 }
 
-// Appends the message that the result of a job differs from the result of the job that its `same_as` names. `other` is the row of that job,
-// if it was run.
+// Appends the expectation that a job has the same result as the job that its `same_as` names, and how the two results differ. `other` is
+// the row of that job, if it was run.
 #[tactic(auto, unfolding(crate::specs::UnmetLines::same_difference_text))]
 fn push_same_difference(
     bytes: &mut Vec<u8>,
@@ -168,7 +168,8 @@ fn push_same_difference(
     push_rows_difference(bytes, first, row, other, difference)
 }
 
-// Appends the first difference between the row of a job and `other`, the row of the job that its `same_as` names.
+// Appends the first difference between the row of a job and `other`, the row of the job that its `same_as` names; or that this job was not
+// run.
 #[tactic(auto, unfolding(crate::specs::UnmetLines::rows_difference_text))]
 fn push_rows_difference(
     bytes: &mut Vec<u8>,
