@@ -10,7 +10,7 @@ use Rattle.rv_stream.specs.declared.reported_range.ReportedRange.{ReportedRange}
 use Rattle.rv_stream.specs.declared.reported_row.ReportedRow.{ReportedRow}
 use Rattle.rv_stream.specs.ReportedRows.{IsReportedRow}
 
--- `reported` has one row for each job in a range of the batch, in order, with the text that `row_text` returns
+-- `reported` has one row for each job in a range of the batch, in order, each with the text that `row_text` returns for it
 pub record AreReportedRows (row_text : ℕ → Row → List ℕ) (batch : Batch) (range : IndexRange) (reported : List ReportedRow) : Type 0 where
   pub count : length reported ≡ range.end - range.begin
   pub each : (k : ℕ) (default : ReportedRow) → k < length reported
