@@ -23,7 +23,7 @@ pub fn completed_steps_are_executed()
     ensures { (s t : State) → step_of s ≡ Ok t → is_executed (fetch_at s) ≡ true }
 {}
 
-/// Proves that a step which ends a run executes an instruction if and only if `is_executed_at_end` is true of its ending.
+/// Proves that a step which ends a run executes an instruction if and only if `is_executed_at_end` is true for its ending.
 pub fn ending_says_whether_the_last_step_is_executed()
     ensures { (s : State) (e : Ending) → step_of s ≡ Err e → is_executed (fetch_at s) ≡ is_executed_at_end e }
 {}
