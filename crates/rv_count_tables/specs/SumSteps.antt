@@ -77,8 +77,7 @@ pub record IsNextImage (a b : List ImageCounts) (next : NextImage) : Type 0 wher
   pub ahead : (others : List ImageCounts) → ImagesAddUp (drop next.count_in_a a) (drop next.count_in_b b) others
       → ImagesAddUp a b (next.image ∷ others)
 
--- the error is correct for adding two lists of images: it is `OutOfMemory`, or there is a digest such that it is correct for the images
--- with this digest
+-- the error is correct for adding two lists of images: it is `OutOfMemory`, or it is correct for the images with some digest
 abbrev pub ImagesHaveNoSum : SumError → List ImageCounts → List ImageCounts → Type 0
 ImagesHaveNoSum OutOfMemory a b = Unit {0}
 ImagesHaveNoSum (Count address) a b = (digest : List ℕ)

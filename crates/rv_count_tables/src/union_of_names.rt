@@ -13,7 +13,7 @@ use crate::table::{FunctionName, FunctionNames};
 use rv_call_tree::Text;
 use std::alloc::{AllocError, Global};
 
-/// Returns the names of all functions in both lists, sorted by function, or an error if a function has different names in them. Allocates
+/// Returns the names of all functions in either list, sorted by function, or an error if a function has different names in them. Allocates
 /// memory for the result only.
 pub(crate) fn union_of_names(
     alloc: Global,
@@ -45,7 +45,7 @@ pub(crate) struct NextName {
     pub(crate) count_in_b: usize,
 }
 
-// Returns the name of the lowest function in both lists, and how many entries (0 or 1) of each list it comes from, or an error if the
+// Returns the name of the lowest function in either list, and how many entries (0 or 1) of each list it comes from, or an error if the
 // function has different names in them.
 fn next_name(alloc: Global, a: &[FunctionName], b: &[FunctionName]) -> Result<NextName, SumError>
     requires a { AllByRecursion IsValidName a.now }
