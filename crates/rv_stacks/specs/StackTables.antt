@@ -172,7 +172,7 @@ pub record IsNextTableNotAdded (plan : PlanView) (indices : List ℕ) (error : S
   pub of_next : IsTableWithStacks plan (slice_index_or indices count 0 ∷ []) next
   pub refused : HaveNoSum error first next
 
--- why there is no table for the jobs at these indices: memory ran out, or the tables of some of them cannot be added
+-- the error says why there is no table for the jobs at these indices: memory ran out, or the tables of some of them cannot be added
 abbrev pub HaveNoTableWithStacks : PlanView → List ℕ → SumError → Type 0
 HaveNoTableWithStacks plan indices error = (error ≡ OutOfMemory) ⊎ IsNextTableNotAdded plan indices error
 
@@ -182,7 +182,7 @@ IsOfNamesOrMemory error = (error ≡ OutOfMemory) ⊎ ((function : ℕ) × (erro
 
 -- ---- parts and shards
 
--- `tables` has the table of each part of the indices, in order, with the counts and the call trees of the jobs in the part
+-- there is one table for each part of the indices, in order, with the counts and the call trees of the jobs in the part
 abbrev pub AreTablesWithStacksOfParts : PlanView → List (List ℕ) → List CountTable → Type 0
 AreTablesWithStacksOfParts plan [] [] = Unit {0}
 AreTablesWithStacksOfParts plan (p ∷ ps) (t ∷ ts) = IsTableWithStacks plan p t × AreTablesWithStacksOfParts plan ps ts

@@ -36,7 +36,7 @@ start_of none address (Some symbol) = address - symbol.1
 unfoldable pub function_at : Image → List ℕ → ℕ → ℕ
 function_at image file address = start_of (no_symbol_number (symbol_at image file 0)) address (symbol_at image file address)
 
--- the call path of a pc: the functions in which the calls were made that have not returned, outermost first, and the function of the pc
+-- the call path of a pc: the function that made each call that has not returned, outermost first, and then the function of the pc
 abbrev pub path_at : (ℕ → ℕ) → List Frame → ℕ → List ℕ
 path_at function frames pc = map (λ f. function f.call) frames ++ function pc ∷ []
 

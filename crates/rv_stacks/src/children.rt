@@ -147,7 +147,7 @@ fn is_child(nodes: &[WalkNode], parent: usize, function: u32, number: usize) -> 
     node.parent == parent && node.function == function
 }
 
-// Whether the node `number` is a child of the node `parent` that still has entries, and its function is not below `from`.
+// Whether the node `number` is a child of the node `parent`, still has entries, and has a function that is not below `from`.
 fn is_next_child(nodes: &[WalkNode], parent: usize, from: u64, number: usize) -> bool
     ensures { result ≡ true → IsNextChild parent from number nodes.now }
 {

@@ -20,7 +20,7 @@ ghost use Rattle.rv_stacks.specs.StackTables.{indices_of_shard, without_stacks, 
 
 use rv_count_tables::trees_with_equal_counts_are_equal;
 
-/// Proves that a run has exactly one call tree.
+/// Proves that a run has only one call tree: any two call trees of the run are equal.
 pub fn run_has_one_call_tree()
     ensures { (function : ℕ → ℕ) (n : ℕ) (s : State) (a b : List CallNode) → AreStacksOf function n s a
         → AreStacksOf function n s b → a ≡ b }
