@@ -61,8 +61,8 @@ pub fn remaining_frames(frames: &[Frame], transfer: Transfer) -> usize
     }
 }
 
-// Returns how many frames remain after a return to the address `to`: those below the topmost frame with this return address. If there is no
-// such frame, these are the frames that remain after frames are removed from the top as long as their stack pointer is not above `sp`.
+// Returns how many frames remain after a return to the address `to`: the ones below the topmost frame with this return address. If there is
+// no such frame, frames are instead removed from the top as long as their stack pointer is not above `sp`.
 fn depth_after_return(frames: &[Frame], to: u32, sp: u32) -> usize
     ensures { result ≡ depth_after_return to sp frames.now }
 {
