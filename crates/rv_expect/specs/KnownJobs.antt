@@ -43,7 +43,8 @@ job_names jobs = map (λ name. name.now) jobs
 abbrev pub has_job_named : List (List ℕ) → List ℕ → Bool
 has_job_named jobs name = list_any (λ job. bytes_eq job name) jobs
 
--- what is wrong with a name that follows these known failures: it is invalid, repeated, or not the name of a job; `None` if nothing is
+-- what is wrong with a name that follows these known failures: it is invalid, repeated, or not the name of a job; `None` if the name is
+-- valid
 abbrev pub fault_kind : List (List ℕ) → List KnownJob → List ℕ → Option KnownFaultKind
 fault_kind jobs known_jobs name = if is_name name
     then (if is_known known_jobs name then Some kind.Twice
