@@ -16,7 +16,7 @@ impl TableRule<(), View, u64> for CounterRule {
     ghost first = { first_view };
 }
 
-/// A draw: adds 1 to word 0. The number found there is the drawn one.
+/// A draw: adds 1 to word 0. The drawn number is the value that word 0 had before.
 pub(crate) struct Draw;
 
 impl Play<(), View> for Draw {
@@ -25,7 +25,7 @@ impl Play<(), View> for Draw {
     ghost then = { IsDraw };
 }
 
-/// A request for an index: writes 1 to its word. The seat gets the index if it found 0.
+/// A request for an index: writes 1 to the index's word. The seat gets the index if the word was 0 before.
 pub(crate) struct Sit;
 
 impl Play<(), View> for Sit {
