@@ -135,7 +135,7 @@ is_file_call body =
 abbrev pub file_reading : List ℕ → Option Request
 file_reading body = request_if_named (codes "vFile:pread:5,") read_file body
 
--- the refusal of a file call that no other parser accepts, such as one with another descriptor than 5, or `None` if the packet is not a
+-- the refusal of a file call that no other parser accepts, such as one with a descriptor other than 5, or `None` if the packet is not a
 -- file call
 abbrev pub other_descriptor_request : List ℕ → Option Request
 other_descriptor_request body = if is_file_call body then Some (gdb_request.Refused refusal.OtherFile) else None

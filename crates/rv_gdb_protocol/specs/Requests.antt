@@ -217,7 +217,7 @@ stoppoint_change change args = unwrap_or (option_map (λ stoppoint. or_refusal r
 abbrev pub refusal_of_address : Bool → Refusal
 refusal_of_address is_address = if is_address then refusal.WouldChange else refusal.Malformed
 
--- the move if the packet `c` or `s` has no arguments, and otherwise a refusal
+-- the move if the packet `c` or `s` has no arguments; otherwise a refusal, `WouldChange` for an address and `Malformed` for anything else
 unfoldable pub plain_move : Move → List ℕ → Request
 plain_move move args = if length args == 0 then gdb_request.Move move else gdb_request.Refused (refusal_of_address (is_some (parse_number args)))
 

@@ -220,8 +220,8 @@ pub(crate) fn unknown_kind_request(args: &[u8]) -> Request
     }
 }
 
-/// Returns the move if the packet `c` or `s` has no arguments. Otherwise returns a refusal, since with an address the move would begin
-/// elsewhere.
+/// Returns the move if the packet `c` or `s` has no arguments. Otherwise returns a refusal: `WouldChange` for an address, since the move
+/// would begin elsewhere, and `Malformed` for anything else.
 #[tactic(auto, unfolding(crate::specs::Requests::plain_move))]
 pub(crate) fn plain_move(step: Move, args: &[u8]) -> Request
     ensures { result ≡ plain_move step args.now }

@@ -20,7 +20,8 @@ pub fn bytes_can_be_split()
         ≡ incoming_in state front ++ incoming_in (fold state_after_byte state front) rest }
 {}
 
-/// Proves that a framed body is received as one packet with a correct checksum, whose data is the body.
+/// Proves that if a body with its escapes is short enough to be stored, its packet is received as one packet with a correct checksum,
+/// whose data is the body.
 pub fn framed_bodies_are_read_back()
     ensures { (body : List ℕ) → length (escaped body) ≤ max_body → IsReadBack body }
 {}

@@ -283,7 +283,7 @@ fn file_reading(body: &[u8]) -> Option<Request>
     Some(read_file(args))
 }
 
-// Returns the refusal of a file call that no other parser accepts, such as one with another descriptor than 5, or `None` if the packet is
+// Returns the refusal of a file call that no other parser accepts, such as one with a descriptor other than 5, or `None` if the packet is
 // not a file call.
 fn other_descriptor_request(body: &[u8]) -> Option<Request>
     ensures { result ≡ other_descriptor_request body.now }
