@@ -189,7 +189,7 @@ fn push_changes_of_row(
     }
 }
 
-// Appends the line of a sign followed by the name of a row's job.
+// Appends a line with a sign and the name of a row's job.
 fn push_sign_line<'a>(text: &mut Vec<u8>, sign: &'a str, row: &'a Row) -> Result<(), AllocError>
     ensures { OnOk result
         (text.new.items ≡ text.old.items ++ line (sign.now ++ row.now.name)) }
