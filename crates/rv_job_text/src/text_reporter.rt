@@ -63,7 +63,7 @@ impl<'a> RowReporter for TextReporter<'a> {
 }
 
 impl<'a> TextReporter<'a> {
-    // Appends all lines of the row of the job at an index, or nothing if the row is not shown.
+    // Appends all lines of a row, or nothing if the row is not shown. `index` is the index of its job.
     #[tactic(auto, unfolding(crate::specs::RowReporter::row_lines))]
     fn push_row_lines(
         &self,
@@ -156,8 +156,8 @@ impl<'a> TextReporter<'a> {
         .push_expectation_lines(alloc, Detail::UnmetExpectation, text)
     }
 
-    /// Appends only the line of the row of the job at an index, whatever the verbosity. The image is parsed only if the run ended with a
-    /// fault.
+    /// Appends only a row's own line, whatever the verbosity. `index` is the index of its job. The image is parsed only if the run ended
+    /// with a fault.
     #[tactic(auto, unfolding(crate::specs::ImageSymbols::fault_symbol))]
     pub fn push_only_row_line(
         &self,
@@ -182,7 +182,7 @@ impl<'a> TextReporter<'a> {
         }
     }
 
-    // Appends the line of the row of the job at an index. `symbol` is the symbol of a fault's pc.
+    // Appends a row's own line. `index` is the index of its job, and `symbol` is the symbol of a fault's pc.
     #[tactic(auto, unfolding(crate::specs::RowReporter::row_line))]
     fn push_row_line(
         &self,
