@@ -91,8 +91,8 @@ failures_by_end judge rows = flat_map (λ row. option_to_list (failure_by_end ju
 abbrev pub comparison_without_same_as : PlanView → Job → Row → ComparisonView
 comparison_without_same_as plan job row = record (comparison_in plan job row) { other = None }
 
--- the kind of failure of a row, given its job in a plan, if there is one: the first unmet expectation decides; without a job, or for a job
--- that passes although it is known to fail, the ending decides
+-- the kind of failure of a row that counts as a failure, given its job in a plan, if there is one: the first unmet expectation decides;
+-- without a job, or for a job that passes although it is known to fail, the ending decides
 abbrev pub failure_kind_in_plan : JudgeView → PlanView → Option Job → Row → FailureKind
 failure_kind_in_plan judge plan None row = failure_kind_of_end row.ending
 failure_kind_in_plan judge plan (Some job) row = if is_unknown_failure (judgement judge row)

@@ -76,10 +76,10 @@ abbrev pub known_or_fault : List KnownJob → Option KnownFault → Result (List
 known_or_fault known_jobs None = Ok known_jobs
 known_or_fault known_jobs (Some fault) = Err fault
 
--- the known failures in the lines of a text, or the first error; `jobs` are the names of the list's jobs
+-- the known failures in the lines of a text, or the first error; `jobs` are the names of the jobs in the job list
 abbrev pub known_jobs_in : List (List ℕ) → List (List ℕ) → Result (List KnownJob) KnownFault
 known_jobs_in jobs lines = known_or_fault (known_in lines) (first_fault jobs [] lines)
 
--- the known failures in a text, or the first error; `jobs` are the names of the list's jobs
+-- the known failures in a text, or the first error; `jobs` are the names of the jobs in the job list
 abbrev pub known_jobs_of : List (List ℕ) → List ℕ → Result (List KnownJob) KnownFault
 known_jobs_of jobs text = known_jobs_in jobs (lines_of text)
