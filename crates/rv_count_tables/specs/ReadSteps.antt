@@ -56,7 +56,7 @@ abbrev pub entry_line : Entry → List ℕ
 entry_line (Address c) = address_line c
 entry_line (Node n) = node_line n
 
--- the entry of a node, with the name of its function in a list
+-- the entry of a node, whose function's name is looked up in `names`
 abbrev pub entry_of_node : List FunctionName → CallNode → Entry
 entry_of_node names node = Node (named names node)
 

@@ -40,8 +40,8 @@ pub record NamesAddUp (a b sum : List FunctionName) : Type 0 where
       → (function : ℕ) → NamesAgree (name_at function a) (name_at function b)
   pub names : (function : ℕ) → name_at function sum ≡ min_text_of (name_at function a) (name_at function b)
 
--- `next` has the first name of the sum of `a` and `b`, and how many names of each list it comes from: if the sum of the remaining names is
--- put after it, the whole is the sum of `a` and `b`
+-- `next` has the first name of the sum of `a` and `b`, and how many names of each list are merged in it: if the sum of the remaining names
+-- is put after it, the whole is the sum of `a` and `b`
 pub record IsNextName (a b : List FunctionName) (next : NextName) : Type 0 where
   pub count_in_a : next.count_in_a ≤ length a
   pub count_in_b : next.count_in_b ≤ length b

@@ -37,7 +37,7 @@ pub(crate) fn union_of_names(
     Ok(FunctionNames::new(sums))
 }
 
-/// The first name of a sum, and how many entries (0 or 1) of each list it comes from.
+/// The first name of a sum, and how many entries (0 or 1) of each list are merged in it.
 #[derive(Drop)]
 pub(crate) struct NextName {
     pub(crate) name: FunctionName,
@@ -45,7 +45,7 @@ pub(crate) struct NextName {
     pub(crate) count_in_b: usize,
 }
 
-// Returns the name of the lowest function in either list, and how many entries (0 or 1) of each list it comes from, or an error if the
+// Returns the name of the lowest function in either list, and how many entries (0 or 1) of each list are merged in it, or an error if the
 // function has different names in them.
 fn next_name(alloc: Global, a: &[FunctionName], b: &[FunctionName]) -> Result<NextName, SumError>
     requires a { AllByRecursion IsValidName a.now }
