@@ -17,7 +17,7 @@ failures_left_after fails zero rows = zero
 failures_left_after fails (suc remaining) [] = suc remaining
 failures_left_after fails (suc remaining) (row ∷ rows) = failures_left_after fails (if fails row then remaining else suc remaining) rows
 
--- the rows up to and including the failure after which the run stops; all rows without a limit
+-- the rows up to and including the failure after which the run stops; all rows if there is no limit or there are fewer failures
 abbrev pub rows_up_to : Option ℕ → (Row → Bool) → List Row → List Row
 rows_up_to None fails rows = rows
 rows_up_to (Some max_failures) fails rows = rows_until fails max_failures rows
