@@ -153,7 +153,7 @@ signatures_difference_text first words others difference.Lengths =
     count_difference_text (length (signature_words_or_empty words)) (codes "word") (length (signature_words_or_empty others))
 signatures_difference_text first words others difference.Missing = missing_signature_text words
 
--- the first difference between the row of a job and `other`, the row of the job that its `same_as` names; or that this job was not run
+-- the first difference between the row of a job and `other`, the row of the job that its `same_as` names; or that the other job was not run
 unfoldable pub rows_difference_text : Option ℕ → Row → Row → SameAsDifference → List ℕ
 rows_difference_text first row other same_as.Ending =
     codes ", which " ++ row_end_text other.ending ++ codes "; this job "

@@ -168,8 +168,8 @@ fn push_same_difference(
     push_rows_difference(bytes, first, row, other, difference)
 }
 
-// Appends the first difference between the row of a job and `other`, the row of the job that its `same_as` names; or that this job was not
-// run.
+// Appends the first difference between the row of a job and `other`, the row of the job that its `same_as` names; or that the other job was
+// not run.
 #[tactic(auto, unfolding(crate::specs::UnmetLines::rows_difference_text))]
 fn push_rows_difference(
     bytes: &mut Vec<u8>,
