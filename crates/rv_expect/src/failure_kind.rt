@@ -12,7 +12,7 @@ use rv_rows::{FaultKind, RowEnd};
 /// expectation that its run does not meet.
 #[derive(Clone, Copy)]
 pub enum FailureKind {
-    /// The run ended with another exit code than the expected one, or with an exit where another end was expected.
+    /// The run ended with an exit.
     Exit,
     /// The run used up its budget.
     Budget,
