@@ -108,7 +108,7 @@ move_request body =
     <|> request_if_named (codes "C") (signal_move move.Continue) body
     <|> request_if_named (codes "S") (signal_move move.Step) body
 
--- the request to detach if nothing follows `D`, or `;` and any text, for which gdb sends a process number; otherwise a refusal as an
+-- the request to detach if `D` is followed by nothing, or by `;` and any text (gdb sends a process number there); otherwise a refusal as an
 -- unknown packet
 unfoldable pub detach : List ℕ → Request
 detach args = if length args == 0 || starts_with nat_eq args (codes ";") then gdb_request.Detach else gdb_request.Refused refusal.Unknown

@@ -221,7 +221,8 @@ refusal_of_address is_address = if is_address then refusal.WouldChange else refu
 unfoldable pub plain_move : Move → List ℕ → Request
 plain_move move args = if length args == 0 then gdb_request.Move move else gdb_request.Refused (refusal_of_address (is_some (parse_number args)))
 
--- the move if the arguments of the packet `C` or `S` are only a signal, which is ignored, and otherwise a refusal
+-- the move if the arguments of the packet `C` or `S` are only a signal, which is ignored; otherwise a refusal, `WouldChange` for a signal
+-- and an address, and `Malformed` for anything else
 unfoldable pub signal_move : Move → List ℕ → Request
 signal_move move args = if is_some (parse_number args) then gdb_request.Move move
     else gdb_request.Refused (refusal_of_address (is_some (parse_two_numbers semicolon args)))

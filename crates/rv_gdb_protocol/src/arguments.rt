@@ -232,7 +232,8 @@ pub(crate) fn plain_move(step: Move, args: &[u8]) -> Request
     Request::Refused(refusal_of_address(parse_number(args).is_some()))
 }
 
-/// Returns the move if the arguments of the packet `C` or `S` are only a signal, which is ignored; otherwise a refusal.
+/// Returns the move if the arguments of the packet `C` or `S` are only a signal, which is ignored. Otherwise returns a refusal:
+/// `WouldChange` for a signal and an address, and `Malformed` for anything else.
 #[tactic(auto, unfolding(crate::specs::Requests::signal_move))]
 pub(crate) fn signal_move(step: Move, args: &[u8]) -> Request
     ensures { result ≡ signal_move step args.now }

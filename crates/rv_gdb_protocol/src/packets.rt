@@ -263,7 +263,7 @@ fn detach_request(body: &[u8]) -> Option<Request>
     Some(detach(args))
 }
 
-// Returns the request to detach if nothing follows `D`, or `;` and any text; otherwise a refusal as an unknown packet.
+// Returns the request to detach if `D` is followed by nothing, or by `;` and any text. Otherwise returns a refusal as an unknown packet.
 #[tactic(auto, unfolding(crate::specs::Packets::detach))]
 fn detach(args: &[u8]) -> Request
     ensures { result ≡ detach args.now }
