@@ -47,7 +47,7 @@ path_at function frames pc = map (λ f. function f.call) frames ++ function pc �
 abbrev pub address_after_pops : List Frame → Transfer → ℕ
 address_after_pops frames t = (slice_index_or frames (length (after_pop frames t)) (frame_of t)).call
 
--- the address whose function is last in the frames that remain after the pops: the call instruction if the transfer pushes a frame, and
+-- the address whose function ends the call path that remains after the pops: the call instruction if the transfer pushes a frame, and
 -- otherwise its target
 abbrev pub continues_at : List Frame → Transfer → ℕ
 continues_at frames t = if is_pushed (after_pop frames t) t then t.from else t.to
