@@ -66,8 +66,8 @@ pub record IsNextChild (parent from number : ℕ) (nodes : List WalkNode) : Type
   pub rising : (k : ℕ) (d : WalkNode) → k + 1 ≡ number → from ≤ (slice_index_or nodes k d).function
   pub some : (k : ℕ) (d : WalkNode) → k + 1 ≡ number → 0 < (slice_index_or nodes k d).calls
 
--- the preorder nodes of `builder` form a tree; the builder's path is the path of the last node, or a prefix of that path whose next
--- function there is below `from`
+-- the preorder nodes of `builder` form a tree, whose last node has the path of the builder or a longer path that begins with it; in the
+-- longer path, the function after the path of the builder is below `from`
 pub record IsPreorderBuilder (nodes : List WalkNode) (builder : PreorderBuilder) : Type 0 where
   pub tree : IsTree builder.nodes.items
   pub some : HasCalls builder.nodes.items
