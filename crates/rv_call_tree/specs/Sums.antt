@@ -33,11 +33,11 @@ IsOverflowOfTrees (Count function) a b = (path : List ℕ) × (ends_with functio
 abbrev pub comes_first : CallNode → CallNode → Bool
 comes_first node other = nat_lt other.depth node.depth || ((node.depth == other.depth) && nat_lt node.function other.function)
 
--- `node` as the first node of a sum if only the first list has it
+-- the first node of a sum, given a node that only the first list has
 abbrev pub node_of_first : CallNode → NextNode
 node_of_first node = record { node = node; count_in_a = 1; count_in_b = 0 }
 
--- `other` as the first node of a sum if only the second list has it
+-- the first node of a sum, given a node that only the second list has
 abbrev pub node_of_second : CallNode → NextNode
 node_of_second other = record { node = other; count_in_a = 0; count_in_b = 1 }
 
