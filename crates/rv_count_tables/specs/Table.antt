@@ -103,7 +103,7 @@ pub record AreValidCounts (cs : List AddressCounts) : Type 0 where
   pub each : AllByRecursion IsValidCount cs
   pub rising : increase_from 0 cs ≡ true
 
--- the name of a function is valid: it is UTF-8 without line feeds, since the line ends there
+-- the name of a function is valid: it is UTF-8 without line feeds, which would end its line
 pub record IsValidName (n : FunctionName) : Type 0 where
   pub function : n.function < 2 ^ 32
   pub name : lacks 10 n.name ≡ true

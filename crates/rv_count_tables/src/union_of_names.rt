@@ -86,7 +86,7 @@ fn have_equal_names(a: &FunctionName, b: &FunctionName) -> bool
     a.name.as_str() == b.name.as_str()
 }
 
-// Returns a copy of a name as the first name of a sum if only the first list has its function.
+// Returns a copy of a name as the first name of a sum, given that only the first list has its function.
 fn name_of_first(alloc: Global, name: &FunctionName) -> Result<NextName, SumError>
     ensures value { IfOk result (λ next. next ≡ record { name = name.now; count_in_a = 1; count_in_b = 0 }) }
     ensures error { IfErr result (λ error. error ≡ OutOfMemory) }
@@ -99,7 +99,7 @@ fn name_of_first(alloc: Global, name: &FunctionName) -> Result<NextName, SumErro
     })
 }
 
-// Returns a copy of a name as the first name of a sum if only the second list has its function.
+// Returns a copy of a name as the first name of a sum, given that only the second list has its function.
 fn name_of_second(alloc: Global, name: &FunctionName) -> Result<NextName, SumError>
     ensures value { IfOk result (λ next. next ≡ record { name = name.now; count_in_a = 0; count_in_b = 1 }) }
     ensures error { IfErr result (λ error. error ≡ OutOfMemory) }
