@@ -20,8 +20,8 @@ pub record FitsFields (node : CallNode) : Type 0 where
   pub calls : node.calls < 2 ^ 64
   pub steps : node.steps < 2 ^ 64
 
--- the error of adding `a` and `b` is true: the calls or the steps of some path that ends in the reported function add up to 2^64 or more;
--- `OutOfMemory` says nothing of the trees and counts as true
+-- the error is a correct result of adding `a` and `b`: the calls or the steps of some path that ends in the reported function add up to
+-- 2^64 or more; `OutOfMemory` is always correct
 abbrev pub IsOverflowOfTrees : CallTreeSumError → List CallNode → List CallNode → Type 0
 IsOverflowOfTrees OutOfMemory a b = Unit {0}
 IsOverflowOfTrees (Count function) a b = (path : List ℕ) × (ends_with function path ≡ true)
@@ -33,11 +33,11 @@ IsOverflowOfTrees (Count function) a b = (path : List ℕ) × (ends_with functio
 abbrev pub comes_first : CallNode → CallNode → Bool
 comes_first node other = nat_lt other.depth node.depth || ((node.depth == other.depth) && nat_lt node.function other.function)
 
--- `node` as the first node of a sum if only the first list has it
+-- the first node of a sum, given a node that only the first list has
 abbrev pub node_of_first : CallNode → NextNode
 node_of_first node = record { node = node; count_in_a = 1; count_in_b = 0 }
 
--- `other` as the first node of a sum if only the second list has it
+-- the first node of a sum, given a node that only the second list has
 abbrev pub node_of_second : CallNode → NextNode
 node_of_second other = record { node = other; count_in_a = 0; count_in_b = 1 }
 
@@ -69,13 +69,13 @@ next_of [] [] = record { node = record { depth = 0; function = 0; calls = 0; ste
 abbrev pub CountsOverflow : CallNode → CallNode → Type 0
 CountsOverflow node other = (2 ^ 64 ≤ node.calls + other.calls) ⊎ (2 ^ 64 ≤ node.steps + other.steps)
 
--- the error of adding two nodes is true: it reports the function of `node`, and the calls or the steps add up to 2^64 or more
+-- the error is a correct result of adding two nodes: it reports the function of `node`, and the calls or the steps add up to 2^64 or more
 abbrev pub IsOverflowOfNodes : CallTreeSumError → CallNode → CallNode → Type 0
 IsOverflowOfNodes OutOfMemory node other = ⊥
 IsOverflowOfNodes (Count function) node other = (function ≡ node.function) × CountsOverflow node other
 
--- the error is true of the first nodes of both lists, which have equal depths and functions: it reports their function, and the calls or
--- the steps add up to 2^64 or more
+-- the error is correct for the first nodes of both lists, which have equal depths and functions: it reports their function, and the calls
+-- or the steps add up to 2^64 or more
 abbrev pub IsOverflowOfFirstNodes : CallTreeSumError → List CallNode → List CallNode → Type 0
 IsOverflowOfFirstNodes OutOfMemory a b = ⊥
 IsOverflowOfFirstNodes (Count function) (s ∷ ss) (t ∷ ts) = (comes_first s t ≡ false) × (comes_first t s ≡ false)

@@ -99,7 +99,7 @@ fn comes_first(node: CallNode, other: CallNode) -> bool
     other.depth < node.depth || (node.depth == other.depth && node.function < other.function)
 }
 
-// Returns the first node of a sum if only the first list has it.
+// Returns the first node of a sum, given a node that only the first list has.
 fn node_of_first(node: CallNode) -> NextNode
     ensures value { result ≡ node_of_first node }
     ensures fits { FitsFields result.node }
@@ -111,7 +111,7 @@ fn node_of_first(node: CallNode) -> NextNode
     }
 }
 
-// Returns the first node of a sum if only the second list has it.
+// Returns the first node of a sum, given a node that only the second list has.
 fn node_of_second(node: CallNode) -> NextNode
     ensures value { result ≡ node_of_second node }
     ensures fits { FitsFields result.node }

@@ -49,7 +49,7 @@ pushes_frame _ = false
 abbrev pub max_frames : ℕ
 max_frames = 4096
 
--- how many frames remain after removing, from the top, all frames that pass a test
+-- how many frames remain after frames that pass a test are removed from the top, up to the first one that does not pass
 abbrev pub depth_below : (Frame → Bool) → List Frame → ℕ
 depth_below test frames = length frames - suffix_len test frames
 
@@ -57,8 +57,8 @@ depth_below test frames = length frames - suffix_len test frames
 abbrev pub depth_up_to_return : ℕ → List Frame → ℕ
 depth_up_to_return to frames = depth_below (λ f. not (f.return_address == to)) frames
 
--- how many frames remain after removing, from the top, all frames whose stack pointer is not above this one; the stack grows down, so the
--- functions of the removed frames have released their part of it
+-- how many frames remain after frames are removed from the top as long as their stack pointer is not above `sp`; the stack grows down, so
+-- the functions of the removed frames have released their part of it
 abbrev pub depth_above : ℕ → List Frame → ℕ
 depth_above sp frames = depth_below (λ f. nat_le f.sp sp) frames
 

@@ -61,8 +61,8 @@ pub fn remaining_frames(frames: &[Frame], transfer: Transfer) -> usize
     }
 }
 
-// Returns how many frames remain after a return to the address `to`: those below the topmost frame with this return address. If there is
-// none, pops the frames at the top whose stack pointer is not above `sp`.
+// Returns how many frames remain after a return to the address `to`: the ones below the topmost frame with this return address. If there is
+// no such frame, frames are instead removed from the top as long as their stack pointer is not above `sp`.
 fn depth_after_return(frames: &[Frame], to: u32, sp: u32) -> usize
     ensures { result ≡ depth_after_return to sp frames.now }
 {
@@ -85,7 +85,7 @@ fn depth_up_to_return(frames: &[Frame], to: u32) -> usize
     depth
 }
 
-// Returns how many frames remain after removing, from the top, all frames whose stack pointer is not above `sp`.
+// Returns how many frames remain after frames are removed from the top as long as their stack pointer is not above `sp`.
 fn depth_above(frames: &[Frame], sp: u32) -> usize
     ensures { result ≡ depth_above sp frames.now }
 {

@@ -80,7 +80,7 @@ first_view pieces = view pieces (0 ∷ []) [] []
 abbrev pub new_seat_view : View → View
 new_seat_view v = view v.pieces [] [] []
 
--- the view of a seat that has noted the draws in the view `v`: no pass index, and no draws of its own
+-- the view of a new seat without a pass index and without draws of its own, which has noted all draws of the seat with the view `v`
 abbrev pub note_of : View → View
 note_of v = view v.pieces [] [] v.draws
 
@@ -102,8 +102,8 @@ pub record Fits (pieces : ℕ) (history : List Entry) (v : View) : Type 0 where
   pub few : past_last_count pieces v.draws ≤ length v.pass_indices
   pub noted : Within v.noted history
 
--- the invariant of a counter's words and of the views of all seats: the seats together hold the draws of one history, which word 0 counts,
--- and each pass index is held by at most one seat, whose word is 1
+-- the invariant of a counter's words and of the views of all seats: the seats together hold the draws of one history, which word 0 counts;
+-- at most one seat holds a pass index, and the index's word is 1 if one does, and otherwise 0
 pub record Runs (pieces : ℕ) (s : State (Unit {0}) View) : Type 0 where
   pub history : List Entry
   pub is_history : IsHistory history
@@ -151,7 +151,8 @@ pub record IsDraw (st : Step (Unit {0})) (me : SeatState) (n : ℕ) (after : Sea
   pub slots : slots_of after ≡ slots_of me
   pub above : (e : Entry) → IsIn e (view_of me).draws → e.number < n
 
--- the step requests the pass index `st.word` - 1: if its word was 0, the seat gets the index; otherwise another seat has it already
+-- the step requests the pass index `st.word` - 1: if the word of this index was 0, the seat gets the index; otherwise another seat has it
+-- already
 pub record IsSeatRequest (st : Step (Unit {0})) (me : SeatState) (n : ℕ) (after : SeatState) : Type 0 where
   pub slots : slots_of after ≡ slots_of me
   pub free : n ≡ 0 → view_of after ≡ view_with_index (view_of me) (st.word - 1)

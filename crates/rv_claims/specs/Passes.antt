@@ -51,7 +51,7 @@ AreDisjoint xs ys = (n : ℕ) → IsIn n xs → IsIn n ys → ⊥
 abbrev pub IsWholeHistory : List Entry → Type 0
 IsWholeHistory draws = (history : List Entry) × IsHistory history × HaveSameDraws draws history
 
--- the invariant of the fields of a pass: a bit is set for each of its pass indices, of which there is at least one, and `ended` is
+-- the invariant of the fields of a pass: a bit is set for each of its pass indices, of which there is at least one, and `ended` says
 -- whether it drew a number past the last chunk
 pub record IsValidPass (me : SeatState) (bits : ℕ) (ended : Bool) : Type 0 where
   pub no_slot : slots_of me ≡ []

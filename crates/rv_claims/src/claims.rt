@@ -121,7 +121,7 @@ impl Claims {
         ensures history { InOneHistory first.draws second.draws }
         ensures apart { AreDisjoint (numbers first.draws) (numbers second.draws) }
     {
-        // Unreachable, since a joined pass would have an index twice: the look rules that out.
+        // Unreachable: the joined pass would have an index twice, and the read of word 0 rules that out.
         if first.bits & second.bits != 0 {
             let mut all = self.join(first, second);
             self.table.shared.load::<Look>(&mut all.seat, 0);

@@ -16,7 +16,7 @@ impl TableRule<(), View, u64> for CounterRule {
     ghost first = { first_view };
 }
 
-/// A draw: adds 1 to word 0. The number found there is the drawn one.
+/// A draw: adds 1 to word 0. The drawn number is the value that word 0 had before.
 pub(crate) struct Draw;
 
 impl Play<(), View> for Draw {
@@ -25,7 +25,7 @@ impl Play<(), View> for Draw {
     ghost then = { IsDraw };
 }
 
-/// A request for an index: writes 1 to its word. The seat gets the index if it found 0.
+/// A request for an index: writes 1 to the index's word. The seat gets the index if the word was 0 before.
 pub(crate) struct Sit;
 
 impl Play<(), View> for Sit {
@@ -34,7 +34,7 @@ impl Play<(), View> for Sit {
     ghost then = { IsSeatRequest };
 }
 
-/// A look: reads word 0. The seat learns that its draws and the draws that it has noted are in one history.
+/// A read of word 0. The seat learns that its draws and the draws that it has noted are in one history.
 pub(crate) struct Look;
 
 impl Play<(), View> for Look {
@@ -65,7 +65,7 @@ impl Split<View> for Note {
     ghost right = { note_of };
 }
 
-/// One seat with what two seats hold; the other is left empty.
+/// A join of two seats: one of them gets what both hold, and the other is left empty.
 pub(crate) struct JoinedSeat;
 
 impl Join<View> for JoinedSeat {

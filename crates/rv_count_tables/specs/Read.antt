@@ -16,8 +16,8 @@ pub record IsFirstInvalidLine (line : ℕ) (bytes : List ℕ) : Type 0 where
   pub before : IsTablePrefix (first_lines (line - 1) bytes)
   pub refused : IsTablePrefix (first_lines line bytes) → ⊥
 
--- the error is true of the bytes: for `Line`, the line is the first invalid one; for `Truncated`, the lines that end with a line feed are
--- the start of some table; `OutOfMemory` is always true
+-- the error is correct for the bytes: for `Line`, the line is the first invalid one; for `Truncated`, the lines that end with a line feed
+-- are the start of some table; `OutOfMemory` is always correct
 abbrev pub IsFirstError : ReadError → List ℕ → Type 0
 IsFirstError OutOfMemory bytes = Unit {0}
 IsFirstError (Line line) bytes = IsFirstInvalidLine line bytes

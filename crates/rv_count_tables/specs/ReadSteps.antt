@@ -56,7 +56,7 @@ abbrev pub entry_line : Entry → List ℕ
 entry_line (Address c) = address_line c
 entry_line (Node n) = node_line n
 
--- the entry of a node, with the name of its function in a list
+-- the entry of a node, whose function's name is looked up in `names`
 abbrev pub entry_of_node : List FunctionName → CallNode → Entry
 entry_of_node names node = Node (named names node)
 
@@ -79,7 +79,7 @@ pub record NextLines : Type 0 where
 abbrev pub before_first_image : NextLines
 before_first_image = record { address = None; names = []; previous_path = None }
 
--- the lines that can come next after the first line of an image: all addresses, or a node of depth 0
+-- the lines that can come next after the first line of an image: the line of any address, or of a node of depth 0
 abbrev pub after_image_line : NextLines
 after_image_line = record { address = Some 0; names = []; previous_path = Some [] }
 
@@ -168,8 +168,8 @@ pub record AreParsedNodes (text : List ℕ) (read : ParsedNodes) : Type 0 where
 
 -- ---- images
 
--- `read` has the image of the first lines of the text, and the length of these lines in bytes; its digest is greater than `last`, and the
--- next line cannot belong to the image
+-- `read` has the image of the first lines of the text, and the length of these lines in bytes; the image's digest is greater than `last`,
+-- if there is one, and the next line cannot belong to the image
 pub record IsParsedImage (last : Option (List ℕ)) (text : List ℕ) (read : ParsedImage) : Type 0 where
   pub within : read.length ≤ length text
   pub lines : text ≡ image_text read.image ++ drop read.length text

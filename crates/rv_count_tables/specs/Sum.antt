@@ -67,8 +67,8 @@ HasNameIn digest function name [] = ⊥
 HasNameIn digest function name (i ∷ is) =
     ((i.digest ≡ digest) × HasName function name i.functions) ⊎ HasNameIn digest function name is
 
--- the error is true of the two tables: the counts that it names add up to 2^64 or more, or the function that it names has different names
--- in them; `OutOfMemory` is always true
+-- the error is correct for the two tables: the numbers that it reports add up to 2^64 or more, or the function that it reports has
+-- different names in them; `OutOfMemory` is always correct
 abbrev pub HaveNoSum : SumError → CountTable → CountTable → Type 0
 HaveNoSum OutOfMemory a b = Unit {0}
 HaveNoSum (Count address) a b = (digest : List ℕ)
@@ -80,7 +80,8 @@ HaveNoSum (Names function) a b = (digest : List ℕ) × (name : List ℕ) × (ot
     × HasNameIn digest function name a.images × HasNameIn digest function other b.images × (name ≡ other → ⊥)
 HaveNoSum Runs a b = 2 ^ 64 ≤ a.runs + b.runs
 
--- the error is true of the counts of one image in the two tables; errors about other numbers are false
+-- the error is correct for the counts of one image in two tables: it is `OutOfMemory`, or the executions at the reported address add up to
+-- 2^64 or more
 abbrev pub CountsHaveNoSum : SumError → List AddressCounts → List AddressCounts → Type 0
 CountsHaveNoSum OutOfMemory a b = Unit {0}
 CountsHaveNoSum (Count address) a b = 2 ^ 64 ≤ executed_at address a + executed_at address b
@@ -88,7 +89,8 @@ CountsHaveNoSum (Node function) a b = ⊥
 CountsHaveNoSum (Names function) a b = ⊥
 CountsHaveNoSum Runs a b = ⊥
 
--- the error is true of the function names of one image in the two tables; errors about numbers are false
+-- the error is correct for the function names of one image in two tables: it is `OutOfMemory`, or the reported function has different names
+-- in them
 abbrev pub IsErrorOfNames : SumError → List FunctionName → List FunctionName → Type 0
 IsErrorOfNames OutOfMemory a b = Unit {0}
 IsErrorOfNames (Count address) a b = ⊥

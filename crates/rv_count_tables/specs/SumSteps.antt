@@ -22,8 +22,8 @@ pub record CountsAddUp (a b sum : List AddressCounts) : Type 0 where
   pub executed : (address : ℕ) → executed_at address sum ≡ executed_at address a + executed_at address b
   pub taken : (address : ℕ) → taken_at address sum ≡ taken_at address a + taken_at address b
 
--- `next` has the counts of the lowest address in a sum, and how many counts of each list they add up; followed by the sum of the remaining
--- counts, they are the sum of `a` and `b`
+-- `next` has the first counts of the sum of `a` and `b`, and how many counts of each list are added up in them: if the sum of the remaining
+-- counts is put after them, the whole is the sum of `a` and `b`
 pub record IsNextCount (a b : List AddressCounts) (next : NextCount) : Type 0 where
   pub count_in_a : next.count_in_a ≤ length a
   pub count_in_b : next.count_in_b ≤ length b
@@ -40,8 +40,8 @@ pub record NamesAddUp (a b sum : List FunctionName) : Type 0 where
       → (function : ℕ) → NamesAgree (name_at function a) (name_at function b)
   pub names : (function : ℕ) → name_at function sum ≡ min_text_of (name_at function a) (name_at function b)
 
--- `next` has the name of the lowest function in a sum, and how many names of each list it comes from; followed by the sum of the remaining
--- names, it is the sum of `a` and `b`
+-- `next` has the first name of the sum of `a` and `b`, and how many names of each list are merged in it: if the sum of the remaining names
+-- is put after it, the whole is the sum of `a` and `b`
 pub record IsNextName (a b : List FunctionName) (next : NextName) : Type 0 where
   pub count_in_a : next.count_in_a ≤ length a
   pub count_in_b : next.count_in_b ≤ length b
@@ -68,8 +68,8 @@ pub record ImagesAddUp (a b sum : List ImageCounts) : Type 0 where
       → calls_in_image digest path sum ≡ calls_in_image digest path a + calls_in_image digest path b
   pub steps : (digest path : List ℕ) → steps_in digest path sum ≡ steps_in digest path a + steps_in digest path b
 
--- `next` has the image with the lowest digest in a sum, and how many images of each list it adds up; followed by the sum of the remaining
--- images, it is the sum of `a` and `b`
+-- `next` has the first image of the sum of `a` and `b`, and how many images of each list are added up in it: if the sum of the remaining
+-- images is put after it, the whole is the sum of `a` and `b`
 pub record IsNextImage (a b : List ImageCounts) (next : NextImage) : Type 0 where
   pub count_in_a : next.count_in_a ≤ length a
   pub count_in_b : next.count_in_b ≤ length b
@@ -77,8 +77,7 @@ pub record IsNextImage (a b : List ImageCounts) (next : NextImage) : Type 0 wher
   pub ahead : (others : List ImageCounts) → ImagesAddUp (drop next.count_in_a a) (drop next.count_in_b b) others
       → ImagesAddUp a b (next.image ∷ others)
 
--- the error is true of adding the two lists of images; for all errors but `OutOfMemory`, which is always true, there is an image for which
--- it is
+-- the error is correct for adding two lists of images: it is `OutOfMemory`, or it is correct for the images with some digest
 abbrev pub ImagesHaveNoSum : SumError → List ImageCounts → List ImageCounts → Type 0
 ImagesHaveNoSum OutOfMemory a b = Unit {0}
 ImagesHaveNoSum (Count address) a b = (digest : List ℕ)
@@ -90,7 +89,7 @@ ImagesHaveNoSum (Names function) a b = (digest : List ℕ) × (name : List ℕ) 
     × HasNameIn digest function name a × HasNameIn digest function other b × (name ≡ other → ⊥)
 ImagesHaveNoSum Runs a b = ⊥
 
--- the error is true of adding these two images, which have one digest
+-- the error is correct for adding these two images, whose digests are equal
 abbrev pub ImageHasNoSum : SumError → ImageCounts → ImageCounts → Type 0
 ImageHasNoSum OutOfMemory a b = Unit {0}
 ImageHasNoSum (Count address) a b = CountsHaveNoSum (Count address) a.addresses b.addresses

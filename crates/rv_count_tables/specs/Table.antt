@@ -43,11 +43,11 @@ is_before xs [] = false
 is_before [] (y ∷ ys) = true
 is_before (x ∷ xs) (y ∷ ys) = nat_lt x y || ((x == y) && is_before xs ys)
 
--- whichever of two paths comes first in byte order
+-- whichever of two texts comes first in byte order
 abbrev pub min_text : List ℕ → List ℕ → List ℕ
 min_text path other = if is_before other path then other else path
 
--- whichever of two paths comes first in byte order, or the only path there is, or `None` without paths
+-- whichever of two texts comes first in byte order, or the only one there is, or `None` if there is none
 abbrev pub min_text_of : Option (List ℕ) → Option (List ℕ) → Option (List ℕ)
 min_text_of None other = other
 min_text_of (Some path) None = Some path
@@ -103,7 +103,7 @@ pub record AreValidCounts (cs : List AddressCounts) : Type 0 where
   pub each : AllByRecursion IsValidCount cs
   pub rising : increase_from 0 cs ≡ true
 
--- the name of a function is valid: it is UTF-8 without line feeds, since the line ends there
+-- the name of a function is valid: it is UTF-8 without line feeds, which would end its line
 pub record IsValidName (n : FunctionName) : Type 0 where
   pub function : n.function < 2 ^ 32
   pub name : lacks 10 n.name ≡ true

@@ -1,10 +1,10 @@
 //! Tables of counts: how often each instruction of each image was executed and on which call paths, with a text format, a parser for it,
 //! and sums.
 //!
-//! A [`CountTable`] has an entry for each executed address, by image. [`table_text`] formats a table. [`read_table`] parses it, or names
-//! the first invalid line ([`ReadError`]). [`sum_of_tables`] adds two tables and returns a [`SumError`] for a sum with a number of 2^64 or
-//! more; [`add_table`] does the same, but takes the tables by value. A sum does not depend on the order of the tables:
-//! [`sums_of_counts_commute`] and [`sums_of_counts_associate`].
+//! A [`CountTable`] has an entry for each executed address, by image. [`table_text`] formats a table. [`read_table`] parses it, or reports
+//! the first invalid line ([`ReadError`]). [`sum_of_tables`] adds two tables, or returns a [`SumError`] if a number would be 2^64 or more,
+//! or if a function has different names in them; [`add_table`] does the same, but takes the tables by value. A sum does not depend on the
+//! order of the tables: [`sums_of_counts_commute`] and [`sums_of_counts_associate`].
 #![tactic(auto)]
 
 mod law;

@@ -18,7 +18,7 @@ pub(crate) fn is_before(a: &[u8], b: &[u8]) -> bool
     false
 }
 
-/// Returns whichever of two paths comes first in byte order.
+/// Returns whichever of two texts comes first in byte order.
 pub(crate) fn min_text<'a>(path: &'a str, other: &'a str) -> &'a str
     ensures { result.now ≡ min_text path.now other.now }
 {

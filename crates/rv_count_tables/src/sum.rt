@@ -52,8 +52,8 @@ impl From<CallTreeSumError> for SumError {
     }
 }
 
-/// Returns the sum of two tables, or why there is none. Images are the same if their digests are equal; their counts are added. Allocates
-/// memory for the sum only.
+/// Returns the sum of two tables, or why there is none. The counts of images with equal digests are added. Allocates memory for the sum
+/// only.
 pub fn sum_of_tables(alloc: Global, a: &CountTable, b: &CountTable) -> Result<CountTable, SumError>
     requires a { IsValidTable a.now }
     requires b { IsValidTable b.now }

@@ -72,7 +72,7 @@ fn next_count(a: &[AddressCounts], b: &[AddressCounts]) -> Result<NextCount, Sum
     })
 }
 
-// Returns the first counts of a sum if only the first list has their address.
+// Returns the first counts of a sum, given counts whose address only the first list has.
 fn count_of_first(sum: AddressCounts) -> NextCount
     ensures { result ≡ record { sum = sum; count_in_a = 1; count_in_b = 0 } }
 {
@@ -83,7 +83,7 @@ fn count_of_first(sum: AddressCounts) -> NextCount
     }
 }
 
-// Returns the first counts of a sum if only the second list has their address.
+// Returns the first counts of a sum, given counts whose address only the second list has.
 fn count_of_second(sum: AddressCounts) -> NextCount
     ensures { result ≡ record { sum = sum; count_in_a = 0; count_in_b = 1 } }
 {

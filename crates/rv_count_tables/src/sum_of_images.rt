@@ -94,7 +94,7 @@ fn next_image(alloc: Global, a: &[ImageCounts], b: &[ImageCounts]) -> Result<Nex
     })
 }
 
-// Returns a copy of an image as the first image of a sum if only the first list has its digest.
+// Returns a copy of an image as the first image of a sum, given that only the first list has its digest.
 fn image_of_first(alloc: Global, image: &ImageCounts) -> Result<NextImage, SumError>
     ensures value { IfOk result (λ next. next ≡ record { image = image.now; count_in_a = 1; count_in_b = 0 }) }
     ensures error { IfErr result (λ error. error ≡ OutOfMemory) }
@@ -107,7 +107,7 @@ fn image_of_first(alloc: Global, image: &ImageCounts) -> Result<NextImage, SumEr
     })
 }
 
-// Returns a copy of an image as the first image of a sum if only the second list has its digest.
+// Returns a copy of an image as the first image of a sum, given that only the second list has its digest.
 fn image_of_second(alloc: Global, image: &ImageCounts) -> Result<NextImage, SumError>
     ensures value { IfOk result (λ next. next ≡ record { image = image.now; count_in_a = 0; count_in_b = 1 }) }
     ensures error { IfErr result (λ error. error ≡ OutOfMemory) }

@@ -13,7 +13,7 @@ use crate::table::{FunctionName, FunctionNames};
 use rv_call_tree::Text;
 use std::alloc::{AllocError, Global};
 
-/// Returns the names of all functions in both lists, sorted by function, or an error if a function has different names in them. Allocates
+/// Returns the names of all functions in either list, sorted by function, or an error if a function has different names in them. Allocates
 /// memory for the result only.
 pub(crate) fn union_of_names(
     alloc: Global,
@@ -37,7 +37,7 @@ pub(crate) fn union_of_names(
     Ok(FunctionNames::new(sums))
 }
 
-/// The first name of a sum, and how many entries (0 or 1) of each list it comes from.
+/// The first name of a sum, and how many entries (0 or 1) of each list are merged in it.
 #[derive(Drop)]
 pub(crate) struct NextName {
     pub(crate) name: FunctionName,
@@ -45,7 +45,7 @@ pub(crate) struct NextName {
     pub(crate) count_in_b: usize,
 }
 
-// Returns the name of the lowest function in both lists, and how many entries (0 or 1) of each list it comes from, or an error if the
+// Returns the name of the lowest function in either list, and how many entries (0 or 1) of each list are merged in it, or an error if the
 // function has different names in them.
 fn next_name(alloc: Global, a: &[FunctionName], b: &[FunctionName]) -> Result<NextName, SumError>
     requires a { AllByRecursion IsValidName a.now }
@@ -86,7 +86,7 @@ fn have_equal_names(a: &FunctionName, b: &FunctionName) -> bool
     a.name.as_str() == b.name.as_str()
 }
 
-// Returns a copy of a name as the first name of a sum if only the first list has its function.
+// Returns a copy of a name as the first name of a sum, given that only the first list has its function.
 fn name_of_first(alloc: Global, name: &FunctionName) -> Result<NextName, SumError>
     ensures value { IfOk result (λ next. next ≡ record { name = name.now; count_in_a = 1; count_in_b = 0 }) }
     ensures error { IfErr result (λ error. error ≡ OutOfMemory) }
@@ -99,7 +99,7 @@ fn name_of_first(alloc: Global, name: &FunctionName) -> Result<NextName, SumErro
     })
 }
 
-// Returns a copy of a name as the first name of a sum if only the second list has its function.
+// Returns a copy of a name as the first name of a sum, given that only the second list has its function.
 fn name_of_second(alloc: Global, name: &FunctionName) -> Result<NextName, SumError>
     ensures value { IfOk result (λ next. next ≡ record { name = name.now; count_in_a = 0; count_in_b = 1 }) }
     ensures error { IfErr result (λ error. error ≡ OutOfMemory) }

@@ -14,7 +14,7 @@ HaveOneImage plan indices = (k : ℕ) (d : Job) → k < length indices
 abbrev pub range_at : List IndexRange → ℕ → IndexRange
 range_at pieces k = slice_index_or pieces k (record { begin = 0; end = 0 })
 
--- the indices of the batch that are in this piece
+-- the indices of the jobs in this piece of the batch
 abbrev pub indices_in : List ℕ → IndexRange → List ℕ
 indices_in indices piece = slice_range indices piece.begin piece.end
 
@@ -30,12 +30,12 @@ pub record IsIndexRange (plan : PlanView) (indices : List ℕ) (from : ℕ) (pie
   pub within : piece.end ≤ length indices
   pub same : HaveOneImage plan (indices_in indices piece)
 
--- the pieces, one after another, have exactly the first `to` indices of the batch
+-- the pieces, one after another, cover exactly the first `to` jobs of the batch
 pub record AreIndexRangesTo (plan : PlanView) (indices : List ℕ) (to : ℕ) (pieces : List IndexRange) : Type 0 where
   pub few : length pieces ≤ to
   pub each : (k : ℕ) → k < length pieces → IsIndexRange plan indices (range_start pieces k) (range_at pieces k)
   pub all : range_start pieces (length pieces) ≡ to
 
--- the pieces, one after another, have exactly all indices of the batch
+-- the pieces, one after another, cover exactly all jobs of the batch
 abbrev pub AreIndexRanges : PlanView → List ℕ → List IndexRange → Type 0
 AreIndexRanges plan indices pieces = AreIndexRangesTo plan indices (length indices) pieces

@@ -55,8 +55,7 @@ path_by answers digest job = option_map (λ s. printable_text job.image) (start_
 abbrev pub runs_by : List PathResult → Job → ℕ
 runs_by answers job = address_if (is_ok (start_state_in answers job))
 
--- of the printable paths by which the jobs that run the image with this digest name it, the first in byte order, or `None` if no job runs
--- it
+-- the first in byte order of the image paths, in printable form, of all jobs that run the image with this digest; `None` if no job runs it
 abbrev pub first_path : List PathResult → List ℕ → List Job → Option (List ℕ)
 first_path answers digest [] = None
 first_path answers digest (j ∷ js) = min_text_of (path_by answers digest j) (first_path answers digest js)

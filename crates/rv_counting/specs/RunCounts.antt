@@ -17,8 +17,7 @@ use Rattle.rv_counting.specs.Coverage.{address_if, AreConsistentCounts}
 use Rattle.rv_counting.specs.JobTables.{executed_from, taken_from, runs_by}
 use Rattle.rv_counting.specs.Tallies.{IsIndexed}
 
--- another run can be counted: the counts and the generations of the code are within the limits for the runs so far, at most 2^32 for each
--- run
+-- another run can be counted: each run so far has added at most 2^32 to the counts of an address and to the generation of the decode cache
 pub record CanCountRuns (c : RunsCounter) : Type 0 where
   pub consistent : AreConsistentCounts (counts_of c.counter)
   pub indexed : IsIndexed c.counter.counts_by_address

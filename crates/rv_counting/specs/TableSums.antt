@@ -15,7 +15,7 @@ abbrev pub sum_or_error : CountTable → Option SumError → Result CountTable S
 sum_or_error sum None = Ok sum
 sum_or_error sum (Some error) = Err error
 
--- `sum` is the sum of all tables but the last one, and the error says why it cannot be added to `sum`
+-- `sum` is the sum of all tables but the last one, and the error says why the last one cannot be added to `sum`
 pub record IsLastNotAdded (sum : CountTable) (error : SumError) (ts : List CountTable) : Type 0 where
   pub before : List CountTable
   pub last : CountTable

@@ -30,7 +30,7 @@ impl Model for JobsTable {
 }
 
 impl JobsTable {
-    /// Returns the result with this table of counts.
+    /// Returns the `JobsTable` that has this table of counts.
     pub fn new(table: CountTable) -> JobsTable
         requires { IsValidTable table }
         ensures { result ≡ table }

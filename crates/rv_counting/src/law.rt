@@ -23,13 +23,13 @@ pub fn completed_steps_are_executed()
     ensures { (s t : State) → step_of s ≡ Ok t → is_executed (fetch_at s) ≡ true }
 {}
 
-/// Proves that a step which ends a run executes an instruction if and only if `is_executed_at_end` is true of its ending.
+/// Proves that a step which ends a run executes an instruction if and only if `is_executed_at_end` is true for its ending.
 pub fn ending_says_whether_the_last_step_is_executed()
     ensures { (s : State) (e : Ending) → step_of s ≡ Err e → is_executed (fetch_at s) ≡ is_executed_at_end e }
 {}
 
-/// Proves that the executions in the counts of a run add up to its completed steps, plus one if it ended with an exit or with a fault other
-/// than a fault of the fetch.
+/// Proves that the executions in the counts of a run add up to its completed steps, plus one if it ended with an exit, or with a fault that
+/// is neither of the fetch nor of an illegal encoding.
 pub fn counts_sum_to_the_steps()
     ensures { (n : ℕ) (s : State) (cs : List AddressCounts) → AreCountsOf n s cs
         → executed_total cs ≡ (run_of n s).steps + address_if (is_executed_at_end (run_of n s).ending) }
@@ -55,7 +55,7 @@ pub fn tables_of_parts_sum_to_that_of_the_list()
 {}
 
 /// Proves that the tables of all shards add up to the table of the whole list, with the same text. A shard has the jobs whose indices leave
-/// one remainder when divided by the number of shards.
+/// the same remainder when divided by the number of shards.
 pub fn tables_of_shards_sum_to_that_of_all()
     ensures { (plan : PlanView) (shards : ℕ) (indices : List ℕ) (ts : List CountTable) (sum whole : CountTable)
         → 0 < shards → AreTablesOfShards plan shards indices ts → SumsTo no_counts ts sum

@@ -23,7 +23,7 @@ pub(crate) struct RunsCounter {
 }
 
 impl RunsCounter {
-    /// Creates a counter of no runs.
+    /// Creates a counter that has counted no runs.
     pub(crate) fn new(alloc: Global) -> Result<RunsCounter, AllocError>
         ensures { IfOk result (λ counter. (answers : List PathResult) → HasCountedJobs answers [] counter) }
     {

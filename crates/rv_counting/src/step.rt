@@ -76,8 +76,8 @@ pub(crate) fn is_fence(op: Op) -> bool
     matches!(op, Op::FenceI)
 }
 
-/// Whether an instruction, when it completes, always continues at the address after it, and is not FENCE.I. Instructions that never
-/// complete are not among them.
+/// Whether an instruction, when it completes, always continues at the address after it, and is not FENCE.I. Returns false for instructions
+/// that never complete.
 pub(crate) fn is_straight(op: Op) -> bool
     ensures { result ≡ is_straight op }
 {

@@ -35,7 +35,7 @@ was_executed counts encoding = nat_lt 0 (executed_at encoding.0 counts)
 abbrev pub is_executed_instruction : List AddressCounts → AddressedCode → Bool
 is_executed_instruction counts encoding = is_instruction encoding && was_executed counts encoding
 
--- whether the branch was taken at least once and not taken at least once
+-- whether the branch was taken at least once, and at least once was not taken
 abbrev pub went_both_ways : List AddressCounts → AddressedCode → Bool
 went_both_ways counts encoding = nat_lt 0 (taken_at encoding.0 counts) && nat_lt (taken_at encoding.0 counts) (executed_at encoding.0 counts)
 
@@ -53,8 +53,8 @@ is_branch_never counts encoding = is_branch_code encoding.1 && not (was_executed
 
 -- ---- sums
 
--- the coverage of encodings: how many are instructions, how many of these ran, and how many are conditional branches that went both ways,
--- one way, or never ran
+-- the coverage of encodings: how many are instructions, how many of these ran, and how many are conditional branches that were both taken
+-- and not taken, that ran but were always taken or never taken, and that never ran
 abbrev pub totals_of_codes : List AddressCounts → List AddressedCode → CodeTotals
 totals_of_codes counts encodings = record {
   instructions = count_by is_instruction encodings;

@@ -9,7 +9,7 @@ use Rattle.rv_cover_view.specs.declared.totals.CodeTotals.{CodeTotals}
 unfoldable pub csv_header : List ℕ
 csv_header = codes "image,functions,functions_run,instructions,instructions_run,branches_both_ways,branches_one_way,branches_never\n"
 
--- whether a field with this byte must be quoted: a comma, a quote, a line feed or a carriage return
+-- whether a field with this byte must be quoted: the byte is a comma, a quote, a line feed or a carriage return
 abbrev pub is_special : ℕ → Bool
 is_special byte = (byte == 44) || ((byte == 34) || ((byte == 10) || (byte == 13)))
 

@@ -7,7 +7,7 @@ use Rattle.rv_count_tables.specs.Printable.{printable_name, printable_text}
 use Rattle.rv_cover_view.specs.declared.totals.CoverageTotals.{CoverageTotals}
 use Rattle.rv_cover_view.specs.declared.totals.CodeTotals.{CodeTotals}
 
--- a number, with leading spaces so that it fills `width` characters
+-- a number, with leading spaces so that it fills at least `width` characters
 unfoldable pub right_aligned : ℕ → ℕ → List ℕ
 right_aligned width number = replicate (width - length (decimal number)) 32 ++ decimal number
 

@@ -45,7 +45,7 @@ pub fn never_run<'a>(
     Ok(found)
 }
 
-// Returns how many of the functions ran: an instruction was executed at one of their addresses.
+// Returns how many of the functions ran, that is, at how many functions' addresses an instruction was executed.
 fn functions_run(functions: &[Function<'_>], counts: &[AddressCounts]) -> u64
     requires { increase_from 0 counts.now ≡ true }
     ensures { result ≡ count_by (has_run counts.now) (map view_of_function functions.now) }

@@ -17,7 +17,7 @@ use std::alloc::{AllocError, Global};
 pub struct ImageCover<'a> {
     /// The path by which the list names the image.
     pub path: &'a [u8],
-    /// The totals of the image's functions, one for each address.
+    /// The totals of the image's functions. Of several functions at one address, only the first counts.
     pub totals: CoverageTotals,
     /// The functions that never ran, sorted by address.
     pub never_run: Vec<Function<'a>>,

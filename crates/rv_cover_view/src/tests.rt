@@ -21,7 +21,7 @@ const BRANCHES: [u8; 14] = [
     0x63, 0x04, 0x00, 0x00, 0x63, 0x14, 0x00, 0x00, 0x11, 0xc0, 0x63, 0x64, 0x00, 0x00,
 ];
 
-// `ret`
+// One instruction, `ret`.
 const RETURN: [u8; 2] = [0x82, 0x80];
 
 // Three iterations of the loop. Of the branches, one was always taken, one never, one sometimes, and one was not executed. An instruction

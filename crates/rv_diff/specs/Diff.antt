@@ -41,7 +41,7 @@ rows_in_both others rows = filter (λ row. not (is_missing_from others row)) row
 
 -- ---- how many jobs differ
 
--- how many jobs are only in the old report, are only in the new report, and have rows that differ
+-- how many jobs only the old report has, how many only the new report has, and how many have rows that differ
 abbrev pub difference_counts : CompareMode → List Row → List Row → DifferenceCounts
 difference_counts mode old new = record {
   gone = count_by (is_missing_from new) old;

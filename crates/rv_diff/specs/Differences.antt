@@ -30,7 +30,7 @@ ending_text (ending.Refused refusal) = codes "refused " ++ refusal_name refusal
 abbrev pub becomes : List ℕ → List ℕ → List ℕ
 becomes old new = old ++ codes " -> " ++ new
 
--- a value in quotes, as it is shown
+-- a value in double quotes, with special characters escaped
 abbrev pub value_in_quotes : List ℕ → List ℕ
 value_in_quotes value = codes "\"" ++ printable_value value ++ codes "\""
 

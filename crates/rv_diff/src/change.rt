@@ -88,7 +88,8 @@ fn agree_in_fault_pc_and_value(old: RowEnd, new: RowEnd) -> bool
     }
 }
 
-/// Whether the steps of two rows are equal, if `mode` compares steps, or the new row is not slower, if it compares that; true otherwise.
+/// Whether two rows agree in their steps, as far as `mode` compares them: with `Steps`, the steps must be equal; with `Slower`, the new row
+/// must not be slower; with `Outcomes`, always true.
 pub fn agree_in_steps(mode: CompareMode, old_row: &Row, new_row: &Row) -> bool
     ensures { result ≡ agree_in_steps mode old_row.now new_row.now }
 {

@@ -51,9 +51,9 @@ pub struct StepSums {
 }
 
 /// Appends the output of `diff` for the rows of two reports, and returns how many jobs differ. First comes `- NAME` for each job that only
-/// the old report has, in its order; then, in the order of the new report, `+ NAME` for each job that only the new one has, and a line `!
-/// NAME: ..` for each field in which the rows of a job differ; and last how many jobs differ, and how many are not compared. Among rows
-/// with one name only the first counts; reports that can be read have no such rows.
+/// the old report has, in its order; then, in the order of the new report, `+ NAME` for each job that only the new report has, and a line
+/// `! NAME: ..` for each field in which the two rows of a job differ; and last how many jobs differ, and how many are not compared. Among
+/// rows with one name only the first counts; reports that can be read have no such rows.
 #[tactic(auto, unfolding(crate::specs::Diff::diff_text))]
 pub fn push_diff(
     alloc: Global,
@@ -189,7 +189,7 @@ fn push_changes_of_row(
     }
 }
 
-// Appends the line of a sign followed by the name of a row's job.
+// Appends a line with a sign and the name of a row's job.
 fn push_sign_line<'a>(text: &mut Vec<u8>, sign: &'a str, row: &'a Row) -> Result<(), AllocError>
     ensures { OnOk result
         (text.new.items ≡ text.old.items ++ line (sign.now ++ row.now.name)) }

@@ -9,7 +9,7 @@ use std::collections::HashMap;
 use std::hash::{BuildHasherDefault, FoldHasher};
 use std::marker::Model;
 
-/// Rows that can be looked up by name, seen by contracts as a list. Among rows with one name the first is found.
+/// Rows that can be looked up by name. Contracts see them as a list. Of several rows with one name, the first is found.
 #[derive(Drop)]
 pub(crate) struct RowsByName<'a> {
     rows: &'a [Row],

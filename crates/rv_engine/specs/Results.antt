@@ -46,7 +46,7 @@ pub record IsChunk {H : Type 0} (is_result : ℕ → H → Type 0) (jobs group c
   pub each : AreResults (λ k. is_result (chunk * group + k)) results
   pub count : length results ≡ min group (jobs - chunk * group)
 
--- each entry of the list is empty, or has the results of the chunk with the number that is its index
+-- each entry of the list is empty, or has the results of the chunk whose number is the index of the entry
 abbrev pub ArePending : {H : Type 0} → (ℕ → H → Type 0) → ℕ → ℕ → List (Option (Vec H Global)) → Type 0
 ArePending is_result jobs group pending = (k : ℕ)
     → IfSome (slice_index_or pending k None) (λ results. IsChunk is_result jobs group k results.items)
@@ -63,7 +63,7 @@ HasReceivedUntil is_result jobs group has_received stops next (Some Stopped) = H
 HasReceivedUntil is_result jobs group has_received stops next (Some Failed) = HasReceivedSome is_result jobs has_received
 
 -- the invariant under the lock of a run: unless the run has ended, the listener has received the results of all chunks before `next`; and
--- each pending entry has the results of the chunk with the number that is its index
+-- each pending entry has the results of the chunk whose number is the index of the entry
 pub record IsInOrder {H : Type 0} (is_result : ℕ → H → Type 0) (jobs group : ℕ) (has_received : List H → Type 0) (stops : Type 0)
     (next : ℕ) (ended : Option End) (entries : List (Option (Vec H Global))) : Type 0 where
   pub received : HasReceivedUntil is_result jobs group has_received stops next ended

@@ -39,10 +39,10 @@ impl From<AllocError> for RunError {
 }
 
 /// Computes the result of each job on as many threads as the crew has, or one per chunk if there are fewer chunks, and delivers the results
-/// to the listener. The listener receives each result as soon as it has received those of all earlier jobs, and is returned at the end.
-/// With `Continue` it has received the result of every job, once and in order; with `Stop`, those up to the job at which it stopped the
-/// run; after an error, those of the first jobs. A free thread draws the next chunk; when the run ends, each thread finishes the chunk that
-/// it is computing. All threads are joined.
+/// to the listener. The listener receives each result as soon as it has received the results of all earlier jobs, and is returned at the
+/// end. With `Continue`, it has received the results of all jobs, each once and in order; with `Stop`, the results up to the job at which
+/// it stopped the run; after an error, the results of some number of first jobs. A free thread draws the next chunk; when the run ends,
+/// each thread finishes the chunk that it is computing. All threads are joined.
 ///
 /// `H` is the type of a job's result. `J` specifies the run: its ghost members are the results that each job can have, the number of jobs,
 /// and the chunk size. The caller chooses them, with a `Brand` of its own.

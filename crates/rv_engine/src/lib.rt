@@ -1,8 +1,9 @@
 //! The run engine: threads that compute a result for each job, and a listener that receives the results in order.
 //!
 //! [`run_jobs`] runs the jobs of a [`Work`] with a [`Crew`]. The work defines what a worker computes for a job; the [`Listener`] receives
-//! each result as soon as it has received those of all earlier jobs. With `Ok` it has received the result of each job once, in order, for
-//! every crew, or those up to the job at which it stopped the run; after an error it has received the results of the first jobs.
+//! each result as soon as it has received the results of all earlier jobs. If the run returns `Ok`, the listener has received the result of
+//! each job once, in order, for every crew, or the results up to the job at which it stopped the run. After an error, it has received the
+//! results of some number of first jobs.
 #![tactic(auto)]
 
 mod both;

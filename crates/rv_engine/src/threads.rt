@@ -17,7 +17,7 @@ pub(crate) trait Worker: Sync {
     ghost use Rattle.std.specs.Prelude.{◌≡◌};
     ghost use Rattle.rv_claims.specs.Passes.{CounterView};
 
-    // The chunks of this shared counter are those that the worker can compute.
+    // The shared counter has the chunks that the worker can compute.
     ghost draws: { Self → CounterView → Type 0 };
 
     /// Draws chunks and computes them until no chunk is left or the run ends.

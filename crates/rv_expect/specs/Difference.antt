@@ -47,8 +47,8 @@ IsDifference Missing xs ys = ⊥
 
 -- ---- two consoles
 
--- the first difference between a console and the expected one, which is the text of the list or the bytes `file`, or `None` if they are
--- equal or none is expected
+-- the first difference between a console and the expected one, which is a text in the job list or `file`, the bytes of a file; `Missing` if
+-- the file was not read; `None` if they are equal or none is expected
 abbrev pub console_difference :
     Option ExpectedConsole → Option (List ℕ) → List ℕ → Option Difference
 console_difference None file console = None
@@ -58,7 +58,7 @@ console_difference (Some (File path)) (Some bytes) console = first_difference co
 
 -- ---- two runs
 
--- the first difference between two signatures, either of which may be missing, or `None` if they are equal
+-- the first difference between two signatures, either of which may be missing; `Missing` if only one exists; `None` if they are equal
 abbrev pub signatures_difference : Option (List ℕ) → Option (List ℕ) → Option Difference
 signatures_difference None None = None
 signatures_difference (Some words) (Some others) = first_difference words others

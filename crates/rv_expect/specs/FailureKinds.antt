@@ -43,7 +43,7 @@ failure_kind_at index =
     if index == 0 then failure.Exit
     else (if index == 1 then failure.Budget else failure_kind_after_budget (slice_get fault_kinds (index - 2)) (index - 2))
 
--- whether two kinds of failures are equal; two faults must be of one kind
+-- whether two kinds of failures are equal; for two faults, the kinds of the faults must be equal, too
 abbrev pub is_same_failure_kind : FailureKind → FailureKind → Bool
 is_same_failure_kind failure.Exit failure.Exit = true
 is_same_failure_kind failure.Budget failure.Budget = true
@@ -82,17 +82,17 @@ failure_kind_of_unmet end (first ∷ others) = failure_kind_of_first end first
 abbrev pub failure_by_end : JudgeView → Row → Option FailureKind
 failure_by_end judge row = if fails judge row then Some (failure_kind_of_end row.ending) else None
 
--- the kind of failure of each row of a report that counts as a failure, in order, by how its job ended
+-- for each row of a report that is a failure, in order, the kind of the failure, by how its job ended
 abbrev pub failures_by_end : JudgeView → List Row → List FailureKind
 failures_by_end judge rows = flat_map (λ row. option_to_list (failure_by_end judge row)) rows
 
--- a row of a plan with the data that it is compared with, as if the job that `same_as` names had not run; so if a job meets all other
--- expectations and fails, `same_as` is the unmet one
+-- a row of a plan with the data that it is compared with, as if the job that `same_as` names had not run; so if a failed job meets all its
+-- other expectations, `same_as` is the unmet one
 abbrev pub comparison_without_same_as : PlanView → Job → Row → ComparisonView
 comparison_without_same_as plan job row = record (comparison_in plan job row) { other = None }
 
--- the kind of failure of a row, given its job in a plan, if there is one: the first unmet expectation decides, or the ending for a job that
--- passes although it is known to fail
+-- the kind of failure of a row that counts as a failure, given its job in a plan, if there is one: the first unmet expectation decides;
+-- without a job, or for a job that passes although it is known to fail, the ending decides
 abbrev pub failure_kind_in_plan : JudgeView → PlanView → Option Job → Row → FailureKind
 failure_kind_in_plan judge plan None row = failure_kind_of_end row.ending
 failure_kind_in_plan judge plan (Some job) row = if is_unknown_failure (judgement judge row)

@@ -18,7 +18,7 @@ pub record JudgeView : Type 0 where
 abbrev pub judge_view : Judge → JudgeView
 judge_view judge = record { rule = judge.rule; known = option_map (λ known. known.now) judge.known }
 
--- counting rows by a rule alone, without known failures
+-- how a run counts rows by this rule alone, without known failures
 abbrev pub judge_by_rule : Rule → JudgeView
 judge_by_rule rule = record { rule = rule; known = None }
 

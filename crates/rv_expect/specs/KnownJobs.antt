@@ -43,7 +43,8 @@ job_names jobs = map (λ name. name.now) jobs
 abbrev pub has_job_named : List (List ℕ) → List ℕ → Bool
 has_job_named jobs name = list_any (λ job. bytes_eq job name) jobs
 
--- what is wrong with a name that follows these known failures: it is invalid, repeated, or not the name of a job; `None` if nothing is
+-- what is wrong with a name that follows these known failures: it is invalid, repeated, or not the name of a job; `None` if the name is
+-- valid
 abbrev pub fault_kind : List (List ℕ) → List KnownJob → List ℕ → Option KnownFaultKind
 fault_kind jobs known_jobs name = if is_name name
     then (if is_known known_jobs name then Some kind.Twice
@@ -57,7 +58,7 @@ fault_of_line jobs earlier line = if has_name line
     (fault_kind jobs (known_in earlier) (name_text line))
     else None
 
--- the first error, or the second one if there is no first one, or `None` if there is neither
+-- the first error if there is one, or else the second one, or `None` if there is neither
 abbrev pub first_of : Option KnownFault → Option KnownFault → Option KnownFault
 first_of (Some fault) other = Some fault
 first_of None other = other
@@ -75,10 +76,10 @@ abbrev pub known_or_fault : List KnownJob → Option KnownFault → Result (List
 known_or_fault known_jobs None = Ok known_jobs
 known_or_fault known_jobs (Some fault) = Err fault
 
--- the known failures in the lines of a text, or the first error; `jobs` are the names of the list's jobs
+-- the known failures in the lines of a text, or the first error; `jobs` are the names of the jobs in the job list
 abbrev pub known_jobs_in : List (List ℕ) → List (List ℕ) → Result (List KnownJob) KnownFault
 known_jobs_in jobs lines = known_or_fault (known_in lines) (first_fault jobs [] lines)
 
--- the known failures in a text, or the first error; `jobs` are the names of the list's jobs
+-- the known failures in a text, or the first error; `jobs` are the names of the jobs in the job list
 abbrev pub known_jobs_of : List (List ℕ) → List ℕ → Result (List KnownJob) KnownFault
 known_jobs_of jobs text = known_jobs_in jobs (lines_of text)

@@ -18,7 +18,7 @@ use Rattle.rv_expect.specs.declared.reference.Reference.TheVariants.{Words, BadL
 
 -- ---- one line
 
--- the word with these bytes, or `None` if there are no bytes, or `line` is not the line that this word is written as
+-- the word with these big-endian bytes; `None` if the digits could not be decoded, or if `line` is not the line of this word
 abbrev pub word_if_line : List ℕ → Result (List ℕ) FromHexError → Option ℕ
 word_if_line line (Ok bytes) =
     let word = from_be_bytes w32 bytes in

@@ -17,7 +17,7 @@ use Rattle.rv_expect.specs.declared.unmet.UnmetExpectation.TheVariants.{Same, De
 
 -- ---- the kind of an unmet expectation
 
--- whether an unmet expectation is about the exit code
+-- whether an unmet expectation is about an exit code that the job sets
 abbrev pub is_exit : UnmetExpectation → Bool
 is_exit Exit = true
 is_exit _ = false

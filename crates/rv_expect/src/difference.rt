@@ -135,7 +135,8 @@ fn difference_of_runs(row: &Row, other: &Row) -> Option<SameAsDifference>
     }
 }
 
-// Returns the first difference between two signatures, either of which may be missing, or `None` if they are equal.
+// Returns the first difference between two signatures, either of which may be missing, or `None` if they are equal. If only one exists, the
+// difference is `Missing`.
 fn signatures_difference(signature: &Option<Words>, other: &Option<Words>) -> Option<Difference>
     ensures { result ≡ signatures_difference signature.now other.now }
 {

@@ -12,7 +12,7 @@ use rv_rows::{FaultKind, RowEnd};
 /// expectation that its run does not meet.
 #[derive(Clone, Copy)]
 pub enum FailureKind {
-    /// The run ended with another exit code than the expected one, or with an exit where another end was expected.
+    /// The run ended with an exit.
     Exit,
     /// The run used up its budget.
     Budget,
@@ -24,7 +24,7 @@ pub enum FailureKind {
     Console,
     /// The signature differs from the expected one.
     Signature,
-    /// The result differs from that of the named job.
+    /// The result differs from the result of the job that `same_as` names.
     SameAs,
 }
 
@@ -69,7 +69,7 @@ impl FailureKind {
         }
     }
 
-    /// Whether two kinds of failures are equal; two faults must be of one kind.
+    /// Whether two kinds of failures are equal; for two faults, the kinds of the faults must be equal, too.
     pub fn is_same(self, other: FailureKind) -> bool
         ensures { result ≡ is_same_failure_kind self other }
     {

@@ -14,8 +14,8 @@ use crate::unmet::unmet_expectations;
 use rv_rows::{Plan, Row, expected_console_bytes, signature_reference_bytes};
 use std::alloc::{AllocError, Global};
 
-/// Returns the kind of failure of each row that counts as a failure, in order. It depends only on how the job ended, since a report has no
-/// expectations.
+/// Returns the kind of failure of each row that counts as a failure, in order. The kind depends only on how the job ended, since a report
+/// has no expectations.
 pub fn failures_by_end(
     alloc: Global,
     judge: &Judge<'_>,

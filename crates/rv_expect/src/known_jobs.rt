@@ -49,7 +49,7 @@ pub enum KnownFaultKind {
     InvalidName,
     /// An earlier line has the same name.
     Twice,
-    /// The list has no job of this name.
+    /// The job list has no job with this name.
     UnknownJob,
 }
 

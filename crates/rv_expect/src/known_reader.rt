@@ -13,7 +13,7 @@ use rv_rows::{Bytes, Sequence, is_name};
 use std::alloc::{AllocError, Global};
 
 /// Parses a list of known failures: one job name per line, then the reason after a `#`. Lines without a name are ignored. `jobs` are the
-/// names of the list's jobs. The inner error is the first error in the text.
+/// names of the jobs in the job list. The inner error is the first error in the text.
 pub fn read_known_jobs(
     alloc: Global,
     jobs: &[&str],
@@ -25,7 +25,7 @@ pub fn read_known_jobs(
     read_lines(alloc, jobs, lines.as_slice())
 }
 
-// Returns the known failures in these lines, or the first error. `jobs` are the names of the list's jobs.
+// Returns the known failures in these lines, or the first error. `jobs` are the names of the jobs in the job list.
 fn read_lines(
     alloc: Global,
     jobs: &[&str],

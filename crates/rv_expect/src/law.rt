@@ -51,9 +51,9 @@ pub fn nothing_is_unmet_where_a_job_passes()
         → (length (unmet_expectations_of comparison) == 0) ≡ passes comparison.row.verdict comparison.row.ending }
 {}
 
-/// Proves that for a job of a plan which ran, and whose signature has 32-bit words, an expectation is reported as unmet if and only if it
-/// does not hold by the definitions of the verdict, given the plan's contents of the job's files and the outcome of the job that its
-/// `same_as` names. No expectation is reported if and only if the job passes.
+/// Proves that for a plan's job that ran, and whose signature has 32-bit words, an expectation is reported as unmet if and only if it does
+/// not hold by the definitions of the verdict, given the plan's contents of the job's files and the outcome of the job that its `same_as`
+/// names. No expectation is reported if and only if the job passes.
 pub fn unmet_of_a_plan_is_what_does_not_hold()
     ensures reported { (plan : PlanView) (job : Job)
         → IsTrue (did_run (row_of plan job).ending)

@@ -8,7 +8,7 @@ use rv_rows::{Row, Verdict, has_expected_exit};
 /// Which rows count as failures.
 #[derive(Clone, Copy)]
 pub enum Rule {
-    /// Every job fails unless it meets its expectations, or expects nothing and ends with exit code 0. So a refused image and an unexpected
+    /// Every job fails unless it meets its expectations, or expects nothing and ends with exit code 0. So a refused job and an unexpected
     /// fault or used-up budget count as failures.
     Strict,
     /// Only a job that does not meet its expectations fails.

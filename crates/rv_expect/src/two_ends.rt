@@ -9,7 +9,7 @@ ghost use Rattle.rv_expect.specs.TwoEnds.{expects_two_ends};
 
 use rv_rows::Job;
 
-/// Whether a job expects an exit code and also another end than an exit.
+/// Whether a job expects an exit code and also an end other than an exit.
 pub fn expects_two_ends(job: &Job) -> bool
     ensures { result ≡ expects_two_ends job.now }
 {

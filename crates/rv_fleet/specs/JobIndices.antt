@@ -1,4 +1,4 @@
--- A selection of a plan's jobs, as indices in order.
+-- Indices of a plan's jobs.
 use Rattle.std.specs.Prelude.{ℕ, ◌<◌, List, length}
 use Rattle.std.specs.List.{All}
 use Rattle.rv_rows.specs.Plans.{PlanView}

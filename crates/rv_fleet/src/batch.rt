@@ -25,7 +25,7 @@ impl<'a> Batch<'a> {
         ensures plan { result.plan.now ≡ plan.now }
         ensures places { result.places.now ≡ places.now }
     {
-        // There are at most as many strictly increasing indices as jobs, and a plan has at most as many jobs as a list can.
+        // There are at most as many strictly increasing indices as jobs, and a plan has at most as many jobs as a list can have.
         let _jobs = plan.jobs();
         let _places = places.len();
         Batch { plan, places }

@@ -19,8 +19,8 @@ pub record IsMoveReplyWritten (end_text : List ℕ) (may_break : Bool) (session 
   pub move_made : IsRequestedMoveMade end_text may_break session reply next
   pub written : Appends old new reply
 
--- the byte at this index of a chunk requested a move, which was made before the next byte was received; the next byte interrupts it if it
--- is 0x03
+-- the byte at this index of a chunk requested a move, which was made before the next byte was received; if the next byte is 0x03, it
+-- interrupted the move
 pub record IsMoveMade (end_text : List ℕ) (session : Session) (chunk : List ℕ) (index : ℕ) (old new : Option (List ℕ)) (next : Session)
     : Type 0 where
   -- the session after the byte, before the move is made

@@ -9,8 +9,8 @@ use Rattle.rv_session.specs.Sessions.{at_start}
 use Rattle.rv_session.specs.declared.session.Session.{Session}
 use Rattle.rv_trace.specs.Trace.{image_bytes}
 
--- the session is at the start of the run of a job that is not refused, before gdb has sent anything; `path` is the path of the job's image
--- that gdb is given
+-- the session is at the start of the run of a job that is not refused, before gdb has sent anything; `path` is the path of the job's image,
+-- as it is reported to gdb
 pub record IsSessionOf (results : List PathResult) (job : Job) (path : List ℕ) (session : Session) : Type 0 where
   pub start : Start
   pub start_is : start_state_in results job ≡ Ok (start_of start)

@@ -14,7 +14,7 @@ pub record IsChunkRead (before after : Option (List ℕ)) (chunk : List ℕ) : T
   pub at_most_max : length chunk ≤ max_read
   pub ended : chunk ≡ [] → IsAtEnd after
 
--- the last of the received bytes are those of one read, which began while the session was still open
+-- the received bytes end with the bytes of one read, which began while the session was still open
 pub record IsLastReadOpen (end_text : List ℕ) (session : Session) (received : List ℕ) : Type 0 where
   pub earlier : List ℕ
   pub last : List ℕ

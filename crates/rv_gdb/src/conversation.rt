@@ -42,7 +42,7 @@ impl From<AllocError> for SessionError {
 // The reply to a move that ran out of memory.
 const NO_MEMORY: &str = "$E.out of memory#79";
 
-/// What is needed to reply to gdb, beside the session.
+/// What is needed, besides the session, to reply to gdb.
 #[derive(Drop)]
 pub struct SessionContext<'a, R, E> {
     pub rt: &'a R,

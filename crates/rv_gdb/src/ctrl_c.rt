@@ -48,7 +48,7 @@ pub(crate) struct SharedInterrupt<'a> {
 impl Interrupt for SharedInterrupt<'_> {
     ghost was_raised = { λ interrupt. interrupt.was_seen };
 
-    // Whether the other thread has raised the interrupt. Records the answer in `was_seen`.
+    // Whether the other thread has raised the interrupt. Records the result in `was_seen`.
     fn is_raised(&mut self) -> bool {
         self.was_seen = self.raised.load(SeqCst);
         self.was_seen

@@ -11,7 +11,7 @@ use rv_trace::{Bytes, Image, Plan, image_bytes, image_of_bytes, machine_at};
 use std::alloc::{AllocError, Global};
 
 /// Returns a session at the start of the run of the job at an index, before gdb has sent anything, or `None` if the job is refused. `path`
-/// is the path of the job's image that gdb is given.
+/// is the path of the job's image, as it is reported to gdb.
 pub fn session_at(
     alloc: Global,
     plan: &Plan,

@@ -20,7 +20,7 @@ joined_by delimiter first second = first ++ delimiter ∷ second
 abbrev pub HasNoDelimiter : ℕ → List ℕ → Type 0
 HasNoDelimiter delimiter text = list_all (λ byte. not (byte == delimiter)) text ≡ true
 
--- the text is the digits of two numbers, separated by a comma
+-- the text consists of the hexadecimal digits of two numbers, separated by a comma
 pub record AreTwoNumbers (text : List ℕ) (first second : ℕ) : Type 0 where
   pub first_digits : List ℕ
   -- the digits of the second number
@@ -44,7 +44,7 @@ pub data IsStoppointText : List ℕ → Stoppoint → Type 0 where
       → address + count ≤ 4294967296
       → IsStoppointText (codes "4," ++ fields) (stoppoint_kind.Watch watch.Accesses (record { address = address; count = count }))
 
--- the packet `c` continues, and `s` steps
+-- the text is the packet `c`, which continues, or `s`, which steps
 pub data IsMove : List ℕ → Move → Type 0 where
   continues : IsMove (codes "c") move.Continue
   steps : IsMove (codes "s") move.Step

@@ -17,7 +17,7 @@ infixl 5 ◌<|>◌
 abbrev pub ◌<|>◌ : {A : Type 0} → Option A → Option A → Option A
 one <|> other = option_or one other
 
--- the request that `request` makes of the arguments of a packet with this name, or `None` for any other packet
+-- the result of `request` for the arguments of a packet with this name, or `None` for any other packet
 abbrev pub request_if_named : List ℕ → (List ℕ → Request) → List ℕ → Option Request
 request_if_named name request body = option_map request (text_after name body)
 
@@ -108,7 +108,7 @@ move_request body =
     <|> request_if_named (codes "C") (signal_move move.Continue) body
     <|> request_if_named (codes "S") (signal_move move.Step) body
 
--- the request to detach if nothing follows `D`, or `;` and any text, for which gdb sends a process number; otherwise a refusal as an
+-- the request to detach if `D` is followed by nothing, or by `;` and any text (gdb sends a process number there); otherwise a refusal as an
 -- unknown packet
 unfoldable pub detach : List ℕ → Request
 detach args = if length args == 0 || starts_with nat_eq args (codes ";") then gdb_request.Detach else gdb_request.Refused refusal.Unknown
@@ -125,7 +125,7 @@ accepted_request body =
 abbrev pub detach_request : List ℕ → Option Request
 detach_request body = request_if_named (codes "D") detach body
 
--- whether a packet is a call on a file descriptor
+-- whether a packet is one of the file calls `vFile:pread:`, `vFile:fstat:`, `vFile:close:` and `vFile:setfs:`
 unfoldable pub is_file_call : List ℕ → Bool
 is_file_call body =
     starts_with nat_eq body (codes "vFile:pread:") || starts_with nat_eq body (codes "vFile:fstat:")
@@ -135,7 +135,8 @@ is_file_call body =
 abbrev pub file_reading : List ℕ → Option Request
 file_reading body = request_if_named (codes "vFile:pread:5,") read_file body
 
--- the refusal of a file call with a descriptor other than 5, or `None` if the packet is not a file call
+-- the refusal of a file call that no other parser accepts, such as one with a descriptor other than 5, or `None` if the packet is not a
+-- file call
 abbrev pub other_descriptor_request : List ℕ → Option Request
 other_descriptor_request body = if is_file_call body then Some (gdb_request.Refused refusal.OtherFile) else None
 

@@ -17,7 +17,7 @@ pub record ReaderState : Type 0 where
   pub position : PacketPosition
   pub body : List ℕ
 
--- the maximum length of the body that the parser stores in a state
+-- the maximum length of the body that the parser stores at this position
 abbrev pub max_body_len : PacketPosition → ℕ
 max_body_len position.Body = max_body
 max_body_len position.FirstDigit = max_body

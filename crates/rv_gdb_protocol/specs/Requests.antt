@@ -212,16 +212,17 @@ stoppoint_change change args = unwrap_or (option_map (λ stoppoint. or_refusal r
 
 -- ---- moves
 
--- the refusal of a move with arguments: `WouldChange` for an address, at which the move would begin, as the Bool says, and otherwise
--- `Malformed`
+-- the refusal of a move with arguments: `WouldChange` if the Bool says that they have an address, at which the move would begin, and
+-- otherwise `Malformed`
 abbrev pub refusal_of_address : Bool → Refusal
 refusal_of_address is_address = if is_address then refusal.WouldChange else refusal.Malformed
 
--- the move if the packet `c` or `s` has no arguments, and otherwise a refusal
+-- the move if the packet `c` or `s` has no arguments; otherwise a refusal, `WouldChange` for an address and `Malformed` for anything else
 unfoldable pub plain_move : Move → List ℕ → Request
 plain_move move args = if length args == 0 then gdb_request.Move move else gdb_request.Refused (refusal_of_address (is_some (parse_number args)))
 
--- the move if the arguments of the packet `C` or `S` are only a signal, which is ignored, and otherwise a refusal
+-- the move if the arguments of the packet `C` or `S` are only a signal, which is ignored; otherwise a refusal, `WouldChange` for a signal
+-- and an address, and `Malformed` for anything else
 unfoldable pub signal_move : Move → List ℕ → Request
 signal_move move args = if is_some (parse_number args) then gdb_request.Move move
     else gdb_request.Refused (refusal_of_address (is_some (parse_two_numbers semicolon args)))

@@ -220,8 +220,8 @@ pub(crate) fn unknown_kind_request(args: &[u8]) -> Request
     }
 }
 
-/// Returns the move if the packet `c` or `s` has no arguments. Otherwise returns a refusal, since with an address the move would begin
-/// elsewhere.
+/// Returns the move if the packet `c` or `s` has no arguments. Otherwise returns a refusal: `WouldChange` for an address, since the move
+/// would begin elsewhere, and `Malformed` for anything else.
 #[tactic(auto, unfolding(crate::specs::Requests::plain_move))]
 pub(crate) fn plain_move(step: Move, args: &[u8]) -> Request
     ensures { result ≡ plain_move step args.now }
@@ -232,7 +232,8 @@ pub(crate) fn plain_move(step: Move, args: &[u8]) -> Request
     Request::Refused(refusal_of_address(parse_number(args).is_some()))
 }
 
-/// Returns the move if the arguments of the packet `C` or `S` are only a signal, which is ignored; otherwise a refusal.
+/// Returns the move if the arguments of the packet `C` or `S` are only a signal, which is ignored. Otherwise returns a refusal:
+/// `WouldChange` for a signal and an address, and `Malformed` for anything else.
 #[tactic(auto, unfolding(crate::specs::Requests::signal_move))]
 pub(crate) fn signal_move(step: Move, args: &[u8]) -> Request
     ensures { result ≡ signal_move step args.now }
@@ -243,7 +244,8 @@ pub(crate) fn signal_move(step: Move, args: &[u8]) -> Request
     Request::Refused(refusal_of_address(parse_two_numbers(b';', args).is_some()))
 }
 
-// Returns the refusal of a move with arguments: `WouldChange` for an address, at which the move would begin, and otherwise `Malformed`.
+// Returns the refusal of a move with arguments: `WouldChange` if they have an address, at which the move would begin, and otherwise
+// `Malformed`.
 fn refusal_of_address(is_address: bool) -> Refusal
     ensures { result ≡ refusal_of_address is_address }
 {

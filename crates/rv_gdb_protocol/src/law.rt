@@ -20,7 +20,8 @@ pub fn bytes_can_be_split()
         ≡ incoming_in state front ++ incoming_in (fold state_after_byte state front) rest }
 {}
 
-/// Proves that a framed body is received as one packet with a correct checksum, whose data is the body.
+/// Proves that if a body with its escapes is short enough to be stored, its packet is received as one packet with a correct checksum,
+/// whose data is the body.
 pub fn framed_bodies_are_read_back()
     ensures { (body : List ℕ) → length (escaped body) ≤ max_body → IsReadBack body }
 {}
@@ -31,7 +32,7 @@ pub fn packets_are_received()
         → IsReceivedAsOnePacket (packet_with_digits text high low) text (check_of_digits text high low) }
 {}
 
-/// Proves that if the parser receives a packet, the bytes up to there end with it.
+/// Proves that if the parser receives a packet, the bytes received so far end with this packet.
 pub fn received_packets_were_sent()
     ensures { (bytes text : List ℕ) (byte : ℕ) (sum : Checksum)
         → incoming_at (fold state_after_byte between_packets bytes) byte ≡ Some (Packet text sum)
@@ -49,7 +50,7 @@ pub fn parts_fit()
     ensures { (text : List ℕ) (part : Part) → length (escaped (part_text text part)) ≤ max_body }
 {}
 
-/// Proves that each packet of the protocol's grammar is parsed as the request that the grammar gives it.
+/// Proves that each packet of the protocol's grammar is parsed as the request that the grammar assigns to it.
 pub fn packets_are_parsed()
     ensures { (body : List ℕ) (request : Request) → IsRequest body request → request_of body ≡ request }
 {}

@@ -263,7 +263,7 @@ fn detach_request(body: &[u8]) -> Option<Request>
     Some(detach(args))
 }
 
-// Returns the request to detach if nothing follows `D`, or `;` and any text; otherwise a refusal as an unknown packet.
+// Returns the request to detach if `D` is followed by nothing, or by `;` and any text. Otherwise returns a refusal as an unknown packet.
 #[tactic(auto, unfolding(crate::specs::Packets::detach))]
 fn detach(args: &[u8]) -> Request
     ensures { result ≡ detach args.now }
@@ -283,7 +283,8 @@ fn file_reading(body: &[u8]) -> Option<Request>
     Some(read_file(args))
 }
 
-// Returns the refusal of a file call with a descriptor other than 5, or `None` if the packet is not a file call.
+// Returns the refusal of a file call that no other parser accepts, such as one with a descriptor other than 5, or `None` if the packet is
+// not a file call.
 fn other_descriptor_request(body: &[u8]) -> Option<Request>
     ensures { result ≡ other_descriptor_request body.now }
 {
@@ -294,7 +295,7 @@ fn other_descriptor_request(body: &[u8]) -> Option<Request>
     }
 }
 
-// Whether a packet is a call on a file descriptor.
+// Whether a packet is one of the file calls `vFile:pread:`, `vFile:fstat:`, `vFile:close:` and `vFile:setfs:`.
 #[tactic(auto, unfolding(crate::specs::Packets::is_file_call))]
 fn is_file_call(body: &[u8]) -> bool
     ensures { result ≡ is_file_call body.now }

@@ -14,7 +14,7 @@ abbrev pub searched_steps : ℕ → ℕ
 searched_steps steps = min steps 100_000
 
 -- how a run of `steps` steps from the state `s` used up its budget: either a state occurs again; or none of the last `within` steps begins
--- with the pc and the registers of the end and is followed only by steps that cannot change the bus
+-- with the pc and the registers of the end such that from then on no step can change the bus
 abbrev pub IsBudgetUse : ℕ → State → BudgetUse → Type 0
 IsBudgetUse steps s (Repeats r) = IsRepetition steps s r × IsWaitReported steps s r
 IsBudgetUse steps s (NoRepetition within) = (within ≡ searched_steps steps)

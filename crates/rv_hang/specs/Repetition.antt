@@ -23,8 +23,8 @@ pub record IsRepetition (steps : ℕ) (s : State) (r : Repetition) : Type 0 wher
 abbrev pub AreQuietSteps : ℕ → ℕ → State → Type 0
 AreQuietSteps step end s = (k : ℕ) → step ≤ k → k < end → is_step_quiet (state_after k s) ≡ true
 
--- step `step` of the run from the state `s` begins with the pc and the registers that the run has after `steps` steps, and no step in
--- between can change the bus
+-- step `step` of the run from the state `s` begins with the pc and the registers that the run has after `steps` steps, and no step from
+-- `step` to the end can change the bus
 pub record RepeatsAtEnd (steps step : ℕ) (s : State) : Type 0 where
   pub before : step < steps
   pub pc : (state_after step s).pc ≡ (state_after steps s).pc
@@ -44,7 +44,7 @@ abbrev pub first_matching : Option MatchingSteps → ℕ → ℕ
 first_matching None step = step
 first_matching (Some matching) step = matching.first
 
--- the first and the last step that begin with these values and after which no step can change the bus, updated for step `step`, which
+-- the first and the last step that begin with these values and from which on no step can change the bus, updated for step `step`, which
 -- begins in the state `s`; `None` if there is none
 abbrev pub matching_steps_after : Option MatchingSteps → ℕ → HartValues → State → Option MatchingSteps
 matching_steps_after matching step values s =

@@ -22,9 +22,9 @@ pub struct Repetition {
     pub waits_for_input: bool,
 }
 
-/// Searches the last `within` steps of a run of `steps` steps for the state in which the run ends; all of these steps must complete.
-/// Returns the earliest step before which the machine has this state, with the smallest period, or `None` if there is none. `end` is the pc
-/// and the registers after the last step.
+/// Searches the last `within` steps of a run of `steps` steps for the state in which the run ends. All `steps` steps must complete. Returns
+/// the earliest step before which the machine has this state, with the smallest period, or `None` if there is none. `end` is the pc and the
+/// registers after the last step.
 pub fn find_repetition(
     machine: Machine,
     steps: u32,
@@ -56,7 +56,7 @@ pub fn find_repetition(
     })
 }
 
-// The first and the last step that begin with the pc and the registers of the end, and after which no step can change the bus.
+// The first and the last step that begin with the pc and the registers of the end, and from which on no step can change the bus.
 #[derive(Clone, Copy)]
 struct MatchingSteps {
     first: u32,

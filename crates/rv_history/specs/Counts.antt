@@ -1,4 +1,4 @@
--- The counts of a run that can be sought.
+-- The counts of a run: a debugger can move to the first step at which a count has a given value.
 use Rattle.std.specs.Prelude.{ℕ, ◌≡◌, ◌≢◌, ◌<◌, ◌≤◌, ◌-◌, Option, Some, None, length}
 use Rattle.rv_trace.specs.State.{State}
 use Rattle.rv_trace.specs.Bus.{BusContents}

@@ -75,7 +75,7 @@ pub record IsTriggerBefore (stops : Stops) (budget : ℕ) (start : State) (step 
   pub triggers : IsTriggerAt stops budget start before
 
 -- a backward move that began at the step `from` can end at the step `step` with this result: at a breakpoint, except where it began; after
--- a step that triggered a watchpoint; or at step 0; an interrupted move is where it began
+-- a step that triggered a watchpoint; or at step 0; an interrupted move ends where it began
 abbrev pub IsBackwardStop : Stops → ℕ → State → ℕ → ℕ → MoveResult → Type 0
 IsBackwardStop stops budget start from step move_result.Breakpoint = (step < from) × IsBreakAt stops start step
 IsBackwardStop stops budget start from step move_result.WatchTriggered =

@@ -16,7 +16,7 @@ pub record IsReached (start : State) (step : ℕ) (s : State) : Type 0 where
   pub completed : (run_of step start).steps ≡ step
   pub state_is : s ≡ state_after step start
 
--- the pc after `step` steps is a breakpoint
+-- the pc after `step` steps is at a breakpoint
 abbrev pub IsBreakAt : Stops → State → ℕ → Type 0
 IsBreakAt stops start step = is_break stops (state_after step start).pc ≡ true
 

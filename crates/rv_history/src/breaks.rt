@@ -88,7 +88,8 @@ pub(crate) fn search_breakpoints<I: Interrupt>(
     Ok(Some(SearchedPart { begin, last }))
 }
 
-// Executes steps, at most `max_steps`, until the next one would be at a breakpoint. Returns how many it executed. Runs at full speed.
+// Executes at most `max_steps` steps at full speed, and returns how many. Stops before a breakpoint, before an instruction that is not
+// cached, and before a step that ends the run.
 fn run_between(machine: &mut Machine, stops: &Stops, max_steps: u32) -> u32
     ensures run { run_of result (state_of machine.old)
         ≡ record { ending = Budget; steps = result; state = state_of machine.new } }

@@ -15,7 +15,7 @@ use std::marker::Model;
 // The initial distance, in steps, between stored states. It is doubled when there is no room for more of them.
 const INTERVAL: u32 = 1 << 22;
 
-// The maximum distance, in steps, from a stored state to where a backward move, a seek or a move to a watchpoint ended.
+// The maximum distance, in steps, from the last stored state to where a backward move, a seek or a move to a watchpoint ended.
 const MAX_NEAR_DISTANCE: u32 = 1 << 16;
 
 // The default memory limit of a session, in megabytes.
@@ -29,7 +29,7 @@ const RESERVED_MEGABYTES: usize = 32;
 // The number of machines that exist during a move in addition to the stored ones.
 const UNSTORED_MACHINES: usize = 4;
 
-// One of this many stored states is near the end of the last backward move, seek or move to a watchpoint.
+// One in this many stored states is near the end of the last backward move, seek or move to a watchpoint.
 const NEAR_SHARE: usize = 8;
 
 // The number of bytes that a machine takes for each byte of its regions.
@@ -131,7 +131,7 @@ impl Checkpoints {
         }
     }
 
-    // Returns the latest stored state at or before the step `step`, or `None` if only the start is stored.
+    // Returns the latest stored state at or before the step `step`, or `None` if there is none apart from the start.
     fn last_stored(&self, step: u32) -> Option<&MachineAt>
         ensures state { IfSome result (λ at. IsAt self.now at.now) }
         ensures before { IfSome result (λ at. at.now.step ≤ step) }

@@ -1,4 +1,4 @@
-//! The counts of a run that can be sought.
+//! The counts of a run: a debugger can move to the first step at which a count has a given value.
 
 ghost use Rattle.std.specs.Prelude.{◌≡◌, ◌≤◌, IfOk};
 ghost use Rattle.rv_history.specs.Counts.{IsFirstStepIfAny, count_value};

@@ -89,8 +89,8 @@ impl History {
         &self.machine
     }
 
-    /// Moves forwards to the next stop or to the end of the run, and returns why it ended. A breakpoint at the first step does not count,
-    /// and the move can begin outside of the bounds. After an interrupt, the move has passed no stop.
+    /// Moves forwards to the next stop or to the end of the run, and returns why the move ended. A breakpoint at the step where the move
+    /// begins does not count, and the move can begin outside of the bounds. After an interrupt, the move has passed no stop.
     pub fn go_on<I: Interrupt>(
         &mut self,
         alloc: Global,
@@ -141,7 +141,7 @@ impl History {
         }
     }
 
-    /// Moves back to the previous stop, or to the start of the run, and returns why it ended. An interrupted move leaves the position
+    /// Moves back to the previous stop, or to the start of the run, and returns why the move ended. An interrupted move leaves the position
     /// unchanged.
     pub fn go_back<I: Interrupt>(
         &mut self,
@@ -240,7 +240,7 @@ impl History {
         stops.first_triggered(alloc, &self.machine, &ahead)
     }
 
-    /// Returns the first watchpoint that the preceding step triggered, or `None` if it triggered none, or if there is no preceding step.
+    /// Returns the first watchpoint that the preceding step triggered, or `None` if it triggered none. The current step must not be 0.
     pub fn watch_hit_by_last_step(
         &self,
         alloc: Global,

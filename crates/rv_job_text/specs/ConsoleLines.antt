@@ -34,16 +34,16 @@ first_or_empty (line ∷ lines) = line
 abbrev pub equal_line_count : List ℕ → List ℕ → ℕ
 equal_line_count actual expected = common_prefix_len bytes_eq (complete_lines actual) (complete_lines expected)
 
--- the number of leading lines that differ before the first pair of equal ones, where each line is compared with the line of its number in
--- the other text; at most the given number
+-- the number of leading lines that differ: two texts are compared line by line, up to the first line that is equal in both; at most the
+-- given number
 unfoldable pub differing_line_count : ℕ → List (List ℕ) → List (List ℕ) → ℕ
 differing_line_count zero actual expected = 0
 differing_line_count (suc max) actual expected =
     if bytes_eq (first_or_empty actual) (first_or_empty expected) then 0
     else 1 + differing_line_count max (drop 1 actual) (drop 1 expected)
 
--- `index` is the first line that differs: the lines before it are equal in both texts, and at this index they differ, or one text has no
--- line
+-- `index` is the index, from 0, of the first line that differs: the lines before it are equal in both texts; at this index, the lines
+-- differ or one text has ended
 pub record DifferFirstAt (index : ℕ) (actual expected : List (List ℕ)) : Type 0 where
   pub before : take index actual ≡ take index expected
   pub differ : first_or_empty (drop index actual) ≢ first_or_empty (drop index expected)
@@ -54,7 +54,7 @@ pub record DifferFirstAt (index : ℕ) (actual expected : List (List ℕ)) : Typ
 abbrev pub begins_character : ℕ → Bool
 begins_character byte = nat_lt byte 0x80 || nat_le 0xC0 byte
 
--- the number of bytes in the first `max` characters of a text, or its length if it has no more characters
+-- the number of bytes in the first `max` characters of a text; its length if it has at most `max` characters
 unfoldable pub characters_len : ℕ → List ℕ → ℕ
 characters_len max [] = 0
 characters_len zero (byte ∷ rest) = if begins_character byte then 0 else 1 + characters_len zero rest
@@ -69,8 +69,8 @@ max_line_characters = 160
 abbrev pub max_bytes_before_difference : ℕ
 max_bytes_before_difference = 32
 
--- the offset from which a line with a difference at `offset` is shown: 0, or, if the line is long, the start of a character shortly before
--- the difference
+-- the offset from which a line with a difference at `offset` is shown: 0 for a line of at most 160 characters; otherwise the first start of
+-- a character that is at most 32 bytes before the difference
 abbrev pub shown_offset : ℕ → List ℕ → ℕ
 shown_offset offset text =
     if characters_len max_line_characters text == length text then 0
@@ -91,13 +91,14 @@ abbrev pub missing_newline_note : List ℕ → List ℕ
 missing_newline_note text =
     if position_or_len is_line_feed text == length text then codes "     \\ no newline at end\n" else []
 
--- the line `own` of one text after a margin; if it is long, it is shown around its first difference from the line `other` of the other text
+-- a margin, the line `own` of one text, and a note if it does not end with a line feed; a long line is shown around its first difference
+-- from `other`, the line of the other text
 unfoldable pub diff_line : List ℕ → List ℕ → List ℕ → List ℕ
 diff_line margin own other =
     line (margin ++ shown_line (common_prefix_len nat_eq own other) (before_first is_line_feed own)) ++ missing_newline_note own
 
--- the first `count` of the lines `own`, each after a margin; a long line is shown around its first difference from the line with its number
--- in `other`
+-- the first `count` of the lines `own`, each after a margin; a long line is shown around its first difference from the line of `other` with
+-- the same index
 unfoldable pub diff_lines : List ℕ → ℕ → List (List ℕ) → List (List ℕ) → List ℕ
 diff_lines margin zero own other = []
 diff_lines margin (suc count) [] other = []
@@ -118,17 +119,18 @@ max_differing_lines = 3
 abbrev pub larger : ℕ → ℕ → ℕ
 larger n m = if nat_lt n m then m else n
 
--- the heading of the difference: `number` is the first line that differs, and `count` the number of lines of the longer text
+-- the heading of the difference: `number` is the number of the first line that differs, from 1, and `count` the number of lines of the
+-- longer text
 abbrev pub difference_heading : List ℕ → ℕ → ℕ → List ℕ
 difference_heading source number count = codes "     console differs from " ++ source ++ codes " at line "
     ++ decimal number ++ codes " of " ++ decimal count ++ codes ":\n"
 
--- the last few of the `equal` leading lines of a text, which are equal in both texts
+-- the last two of the `equal` leading lines that both texts share, or fewer if there are fewer; each after a margin
 abbrev pub equal_lines : ℕ → List (List ℕ) → List ℕ
 equal_lines equal lines = let earlier = equal - max_equal_lines in
     diff_lines (codes "       ") (equal - earlier) (drop earlier lines) []
 
--- the lines that differ at the start of two texts: first the expected ones, then the actual ones
+-- the lines that differ at the start of two texts, at most three of each: first the expected ones, then the actual ones
 abbrev pub differing_lines : List (List ℕ) → List (List ℕ) → List ℕ
 differing_lines actual expected = let count = differing_line_count max_differing_lines actual expected in
     diff_lines (codes "     - ") count expected actual ++ diff_lines (codes "     + ") count actual expected
@@ -157,7 +159,7 @@ pub record NamedText : Type 0 where
   pub text : List ℕ
 
 -- the expected console text and its name, or `None` if no console is expected; the text is in the list, or it is `file`, the contents of
--- the file that the list names
+-- the file that the list names, which are empty if it was not read
 abbrev pub expected_console : Option ExpectedConsole → Option (List ℕ) → Option NamedText
 expected_console None file = None
 expected_console (Some (console.Text text)) file = Some record { source = codes "the expected text"; text = text }
@@ -169,7 +171,7 @@ shown_by_lines difference actual None = None
 shown_by_lines difference actual (Some expected) =
     if is_shown_by_lines difference actual expected.text then Some expected else None
 
--- the expected text if an unmet expectation is one of the console and the difference is shown line by line; else `None`
+-- the expected console text if the unmet expectation is about the console and its difference is shown line by line; else `None`
 abbrev pub expected_by_lines : ComparisonView → UnmetExpectation → Option NamedText
 expected_by_lines comparison unmet.Exit = None
 expected_by_lines comparison unmet.End = None

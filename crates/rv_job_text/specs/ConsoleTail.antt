@@ -19,7 +19,7 @@ text_lines [] = []
 text_lines (byte ∷ rest) =
     if is_line_feed byte then [] ∷ text_lines rest else onto_first byte (text_lines rest)
 
--- a line of a console after a margin, with a line feed
+-- a margin, a line of a console, and a line feed
 abbrev pub console_tail_line : List ℕ → List ℕ
 console_tail_line text = line (codes "     | " ++ printable_text text)
 

@@ -41,15 +41,15 @@ regions_text regions = flat_map region_text regions
 
 -- ---- segments
 
--- the addresses of the bytes of a segment that do not fit: those in memory if the Bool says that those of the file fit, and otherwise those
--- of the file
+-- the addresses of a segment's bytes that do not fit in one region: of its bytes in memory if the Bool says that its bytes from the file
+-- fit, and otherwise of its bytes from the file
 unfoldable pub outside_segment_text : Bool → LoadAt → Segment → List ℕ
 outside_segment_text true at segment =
     codes "a segment's bytes in memory, " ++ address_range_text segment.vaddr segment.memsz
 outside_segment_text false at segment =
     codes "a segment's bytes from the file, " ++ address_range_text (load_address at segment) segment.filesz
 
--- that a segment does not fit in one region, with the regions, if the segment is known
+-- the message that a segment does not fit in one region; with its addresses and the regions, if the segment is known
 unfoldable pub unfit_segment_text : Job → Option Segment → List ℕ
 unfit_segment_text job None = codes "a segment does not fit in one region"
 unfit_segment_text job (Some segment) =
@@ -57,7 +57,7 @@ unfit_segment_text job (Some segment) =
     job.load segment
     ++ codes ", do not fit in one region:" ++ regions_text job.regions
 
--- the first segment that overlaps a later one, with the first of those, or `None` if no two segments overlap
+-- the first segment that overlaps a later one, and the first later one that it overlaps; `None` if no two segments overlap
 abbrev pub overlapping_segments : LoadAt → List Segment → Option (Segment × Segment)
 overlapping_segments at [] = None
 overlapping_segments at (segment ∷ rest) =
@@ -70,7 +70,7 @@ segment_pair_text at first second =
     address_range_text (load_address at first) first.filesz ++ codes " and "
     ++ address_range_text (load_address at second) second.filesz
 
--- that the file contents of two segments overlap, with their addresses, if the segments are known
+-- the message that the file contents of two segments overlap; with their addresses, if the segments are known
 unfoldable pub segment_overlap_text : LoadAt → Option (Segment × Segment) → List ℕ
 segment_overlap_text at None = codes "the file contents of two segments overlap"
 segment_overlap_text at (Some pair) =
@@ -78,7 +78,7 @@ segment_overlap_text at (Some pair) =
 
 -- ---- symbols
 
--- that a symbol of the signature is not defined, with its name if it is known
+-- the message that a symbol of the signature is not defined; with its name, if it is known
 unfoldable pub missing_symbol_text : Option (List ℕ) → List ℕ
 missing_symbol_text None = codes "a symbol of the signature is undefined"
 missing_symbol_text (Some name) = codes "symbol " ++ printable_text name ++ codes " is not defined"
@@ -97,7 +97,7 @@ unfoldable pub signature_ends_text : List ℕ → Symbols → List ℕ
 signature_ends_text file names =
     named_symbol_text file names.begin ++ codes " to " ++ named_symbol_text file names.end
 
--- that a signature is not a sequence of words in one region, with its two symbols and the regions
+-- the message that a signature is not a sequence of words in one region; with its two symbols and the regions, if the symbols are known
 unfoldable pub signature_range_text : List Region → List ℕ → Option Symbols → List ℕ
 signature_range_text regions file None = codes "the signature is not a sequence of words in one region"
 signature_range_text regions file (Some names) =
@@ -133,7 +133,7 @@ image_error_sentence image_error.NoEnd = codes "a symbol of the signature is und
 image_error_sentence image_error.SignatureRange = codes "the signature is not a sequence of words in one region"
 image_error_sentence image_error.OutOfMemory = codes "out of memory"
 
--- the reason why an image that can be parsed was refused, with details of its segments or symbols
+-- the reason why an image that can be parsed was refused; with details if it is about segments or symbols
 unfoldable pub image_details_text : Job → List ℕ → Image → ImageError → List ℕ
 image_details_text job file image image_error.SegmentMap =
     unfit_segment_text job (unfit_segment job.regions job.load image.segments)

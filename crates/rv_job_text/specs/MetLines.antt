@@ -17,7 +17,7 @@ abbrev pub optional_path_text : Option (List ℕ) → List ℕ
 optional_path_text None = []
 optional_path_text (Some path) = codes " of " ++ printable_text path
 
--- the expectation that a job has the same result as the job of this row
+-- the expectation that a job has the same result as the job of this row, or as another job if there is no row
 unfoldable pub same_as_job_text : Option Row → List ℕ
 same_as_job_text None = codes "the same result as another job"
 same_as_job_text (Some other) = codes "the same result as " ++ printable_text other.name

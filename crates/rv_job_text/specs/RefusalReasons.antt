@@ -27,14 +27,14 @@ unread_reference_path answers job =
     option_or (path_if_unread (signature_reference_bytes answers job) job.expect_signature)
     (path_if_unread (expected_console_bytes answers job) (console_path job.expect_console))
 
--- the reason why an image file that was read was refused, or `None` if it was not read
+-- the reason why the image in a file was refused, or `None` if the file was not read
 abbrev pub image_refusal_text : List PathResult → Job → ImageError → Option (List ℕ)
 image_refusal_text answers job error =
     option_map (λ file. image_reason job file error)
     (content_if_read (Some (result_or_unreadable answers job.image)))
 
--- the reason why a job was refused, or `None` if the file in question is not known; `unread` lists the files that could not be read, with
--- the causes
+-- the reason why a job was refused, or `None` if it is not known which file caused it; `unread` lists the files that could not be read,
+-- with the causes
 unfoldable pub refusal_reason : List PathResult → List UnreadablePath → Job → Refusal → Option (List ℕ)
 refusal_reason answers unread job refusal.ImageUnreadable = Some (unread_file_text unread job.image)
 refusal_reason answers unread job refusal.ImageTooLong = Some (too_long_file_text job.image)

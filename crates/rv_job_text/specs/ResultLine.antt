@@ -19,7 +19,7 @@ optional_reason_text (Some reason) = codes ": " ++ printable_text reason
 abbrev pub after_steps_text : ℕ → List ℕ
 after_steps_text steps = codes " after " ++ count_text steps (codes "step")
 
--- how a run ended, and after how many steps; a fault has its pc, with `symbol`, and its value; a refusal has its reason
+-- how a run ended, and after how many steps; for a fault also its pc, with `symbol`, and its value; a refusal has its reason, and no steps
 unfoldable pub result_ending_text : RowEnd → ℕ → Option (List ℕ × ℕ) → Option (List ℕ) → List ℕ
 result_ending_text (ending.Exit code) steps symbol reason =
     codes "exit " ++ exit_code_text code ++ after_steps_text steps
@@ -45,7 +45,8 @@ known_reason_text reason = if length reason == 0 then [] else codes " (" ++ prin
 abbrev pub now_passes_text : List ℕ → List ℕ
 now_passes_text path = codes "passes, but is listed as known to fail: remove it from " ++ printable_text path
 
--- how a run ended and, for a known failure, its reason; if the job passes although it is listed as a known failure, that message instead
+-- how a run ended and, for a known failure, its reason; for a job that passes although it is listed as a known failure, only a message that
+-- says so
 abbrev pub judged_ending_text : JudgementView → Row → Option (List ℕ × ℕ) → Option (List ℕ) → List ℕ
 judged_ending_text passed row symbol reason = result_ending_text row.ending row.steps symbol reason
 judged_ending_text failed row symbol reason = result_ending_text row.ending row.steps symbol reason

@@ -32,7 +32,7 @@ pub record RowReporter : Type 0 where
   pub plan : PlanView
   -- the files that could not be read, with the causes
   pub unread : List UnreadablePath
-  -- the rule by which rows are failures
+  -- decides which rows are failures
   pub judging : JudgeView
   -- which rows are shown
   pub verbosity : Verbosity
@@ -81,13 +81,14 @@ expectation_lines which plan job row =
     compared_lines which (signature_address plan job) (comparison_in plan job row)
     (unmet_expectations_in plan job row)
 
--- the lines of a failed run after its first: the unmet expectations, the end of the console and, if `last` is given, the trace of its end
+-- the lines of a failed run after its first line: the unmet expectations, the end of the console and, if `last` is given, the trace of its
+-- end
 unfoldable pub run_lines : PlanView → Job → Row → Option ℕ → List ℕ
 run_lines plan job row last =
     expectation_lines detail.UnmetExpectation plan job row ++ (console_tail row.console
     ++ end_trace_if_requested plan job row last)
 
--- the lines of a failed row after its first; empty if the job did not run
+-- the lines of a failed row after its first line; empty if the job did not run
 abbrev pub lines_below_failure : PlanView → Job → Row → Option ℕ → List ℕ
 lines_below_failure plan job row last = if did_run row.ending then run_lines plan job row last else []
 

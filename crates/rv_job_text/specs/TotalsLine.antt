@@ -78,7 +78,7 @@ abbrev pub passed_counts_text : ℕ → ℕ → ℕ → List ℕ
 passed_counts_text jobs passed failed = decimal jobs ++ job_word jobs ++ codes ": " ++ decimal passed
     ++ codes " passed, " ++ decimal failed ++ codes " failed"
 
--- the number of known failures; empty if there are none
+-- a comma and the number of known failures; empty if there are none
 abbrev pub known_count_text : ℕ → List ℕ
 known_count_text count = if count == 0 then [] else codes ", " ++ count_text count (codes "known failure")
 
@@ -88,7 +88,7 @@ totals_text judging failures rows = passed_counts_text (length rows) (passed_cou
     ++ bracket_text (failure_texts_below (failure_count failures) failure_kind_count)
     ++ known_count_text (known_count judging rows) ++ codes ", " ++ count_text (total_steps rows) (codes "step")
 
--- the last line for the rows of a report, whose failures are counted by how they ended
+-- the last line for the rows of a report; its failures are counted by how their runs ended
 abbrev pub totals_line : JudgeView → List Row → List ℕ
 totals_line judging rows = line (totals_text judging (failures_by_end judging rows) rows)
 

@@ -30,12 +30,12 @@ use Rattle.rv_job_text.specs.ConsoleLines.{NamedText, console_lines, expected_by
 
 -- ---- the exit code and the end
 
--- the expected exit code as `exit CODE`
+-- the expected exit code as `exit CODE`, or `an exit` if there is none
 unfoldable pub expected_exit_text : Option ℕ → List ℕ
 expected_exit_text None = codes "an exit"
 expected_exit_text (Some code) = codes "exit " ++ exit_code_text code
 
--- the expected end: `budget used up`, or `fault KIND`
+-- the expected end: `budget used up` or `fault KIND`, or `another end` if there is none
 unfoldable pub expected_end_text : Option ExpectedEnd → List ℕ
 expected_end_text None = codes "another end"
 expected_end_text (Some expected.Budget) = codes "budget used up"
@@ -58,13 +58,14 @@ unfoldable pub count_difference_text : ℕ → List ℕ → ℕ → List ℕ
 count_difference_text actual what expected =
     codes " in length: expected " ++ count_text expected what ++ codes ", found " ++ decimal actual
 
--- at which byte `actual` first differs from `expected`, or the lengths if one of them is the start of the other
+-- where `actual` first differs from `expected`: the byte, or the lengths if one of them is the start of the other; or that `expected` was
+-- not read
 unfoldable pub bytes_difference_text : Difference → List ℕ → List ℕ → List ℕ
 bytes_difference_text (difference.At offset) actual expected = byte_difference_text offset actual expected
 bytes_difference_text difference.Lengths actual expected = count_difference_text (length actual) (codes "byte") (length expected)
 bytes_difference_text difference.Missing actual expected = codes ", which was not read"
 
--- the message that the console differs from the expected one, which is a text in the list or the contents of a file
+-- the message that the console differs from the expected one, and where; the expected one is a text in the list or the contents of a file
 unfoldable pub expected_console_text :
     ExpectedConsole → Option (List ℕ) → List ℕ → Difference → List ℕ
 expected_console_text (console.Text text) file actual difference =
@@ -73,7 +74,7 @@ expected_console_text (console.File path) file actual difference =
     codes "console differs from " ++ printable_text path
     ++ bytes_difference_text difference actual (unwrap_or file [])
 
--- the message that the console differs from the expected one
+-- the message that the console differs from the expected one, and where; `no console` if none is expected
 unfoldable pub console_difference_text :
     Option ExpectedConsole → Option (List ℕ) → List ℕ → Difference → List ℕ
 console_difference_text None file actual difference = codes "no console"
@@ -97,7 +98,7 @@ word_address_text None index = []
 word_address_text (Some first) index =
     codes " (" ++ word_digits ((first + 4 * index) % 2 ^ 32) ++ codes ")"
 
--- the index of a word, and its address if `first`, the address of the first word, is known
+-- the index of a word, its address if `first`, the address of the first word, is known, and `: expected `
 unfoldable pub word_location_text : Option ℕ → ℕ → List ℕ
 word_location_text first index = codes " at word " ++ decimal index ++ word_address_text first index ++ codes ": expected "
 
@@ -110,7 +111,8 @@ unfoldable pub bad_reference_line_text : ℕ → List ℕ
 bad_reference_line_text number =
     codes ", which is invalid at line " ++ decimal number ++ codes ": expected eight lower-case hexadecimal digits and a newline"
 
--- where the words of a signature first differ from the text of a signature file; `first` is the address of the first word, if it is known
+-- where the words of a signature first differ from the text of a signature file, or why they cannot be compared; `first` is the address of
+-- the first word, if it is known
 unfoldable pub reference_difference_text : Option ℕ → List ℕ → List ℕ → SignatureDifference → List ℕ
 reference_difference_text first words text (signature_difference.Line number) = bad_reference_line_text number
 reference_difference_text first words text (signature_difference.Word index) =
@@ -119,7 +121,8 @@ reference_difference_text first words text signature_difference.Count =
     count_difference_text (length words) (codes "word") (length text / 9)
 reference_difference_text first words text signature_difference.Missing = codes ", which was not read"
 
--- the message that a signature differs from the expected one, and where; `bytes` are the contents of the signature file, if it was read
+-- the message that a signature differs from the expected one, and where; `bytes` are the contents of the signature file, if it was read;
+-- `no signature` if none is expected
 unfoldable pub signature_difference_text : Option ℕ → Option (List ℕ) → Option (List ℕ) → Option (List ℕ)
     → SignatureDifference → List ℕ
 signature_difference_text first None words bytes difference = codes "no signature"
@@ -150,7 +153,7 @@ signatures_difference_text first words others difference.Lengths =
     count_difference_text (length (signature_words_or_empty words)) (codes "word") (length (signature_words_or_empty others))
 signatures_difference_text first words others difference.Missing = missing_signature_text words
 
--- the first difference between the row of a job and `other`, the row of the job that its `same_as` names
+-- the first difference between the row of a job and `other`, the row of the job that its `same_as` names; or that the other job was not run
 unfoldable pub rows_difference_text : Option ℕ → Row → Row → SameAsDifference → List ℕ
 rows_difference_text first row other same_as.Ending =
     codes ", which " ++ row_end_text other.ending ++ codes "; this job "
@@ -161,7 +164,7 @@ rows_difference_text first row other (same_as.Signature difference) =
     codes ": signature differs" ++ signatures_difference_text first row.signature other.signature difference
 rows_difference_text first row other same_as.Missing = codes ", which was not run"
 
--- the message that the result of a job differs from the result of the job that its `same_as` names
+-- the expectation that a job has the same result as the job that its `same_as` names, and how the two results differ
 unfoldable pub same_difference_text : Option ℕ → Row → Option Row → SameAsDifference → List ℕ
 same_difference_text first row None difference = codes "the same result as another job, which was not run"
 same_difference_text first row (Some other) difference =

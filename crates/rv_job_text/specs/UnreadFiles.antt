@@ -11,7 +11,7 @@ use Rattle.rv_files.specs.Limits.{max_file_size}
 abbrev pub unread_note : List UnreadablePath → List ℕ → Option UnreadablePath
 unread_note unread path = find (λ (one : UnreadablePath). bytes_eq path one.path) unread
 
--- the cause why a file could not be read, or `cannot be read` if there is no entry for it
+-- the reason why a file could not be read, or `cannot be read` if there is no entry for it
 abbrev pub unread_note_text : Option UnreadablePath → List ℕ
 unread_note_text None = codes "cannot be read"
 unread_note_text (Some one) = io_error_text one.reason

@@ -50,7 +50,8 @@ fn larger(count: usize, other: usize) -> usize
     if count < other { other } else { count }
 }
 
-// Appends the heading of the difference: `number` is the first line that differs, and `count` the number of lines of the longer text.
+// Appends the heading of the difference: `number` is the number of the first line that differs, from 1, and `count` the number of lines of
+// the longer text.
 fn push_lines_heading(
     bytes: &mut Vec<u8>,
     source: Span<'_>,
@@ -74,7 +75,7 @@ fn push_lines_heading(
     )
 }
 
-// Appends the last few of the `equal` leading lines of a text, which are equal in both texts.
+// Appends the last two of the `equal` leading lines that both texts share, or fewer if there are fewer. Each follows a margin.
 fn push_equal_lines(bytes: &mut Vec<u8>, equal: usize, text: &[u8]) -> Result<(), AllocError>
     ensures { OnOk result (bytes.new.items ≡ bytes.old.items ++ equal_lines equal (complete_lines text.now)) }
 {
@@ -83,7 +84,7 @@ fn push_equal_lines(bytes: &mut Vec<u8>, equal: usize, text: &[u8]) -> Result<()
     push_diff_lines(bytes, "       ", equal - earlier, last, &[])
 }
 
-// Appends the lines that differ at the start of two texts: first the expected ones, then the actual ones.
+// Appends the lines that differ at the start of two texts, at most three of each: first the expected ones, then the actual ones.
 fn push_differing_lines(
     bytes: &mut Vec<u8>,
     actual: &[u8],
@@ -97,8 +98,8 @@ fn push_differing_lines(
     push_diff_lines(bytes, "     + ", count, actual, expected)
 }
 
-// Appends the first `count` lines of the text `own`, each after a margin. A long line is shown around its first difference from the line
-// with its number in `other`.
+// Appends the first `count` lines of the text `own`, each after a margin. A long line is shown around its first difference from the line of
+// `other` with the same index.
 fn push_diff_lines(
     bytes: &mut Vec<u8>,
     margin: &'static str,
@@ -122,7 +123,7 @@ fn push_diff_lines(
     Ok(())
 }
 
-// Returns the text after its first `count` lines, which is empty if it has no more lines.
+// Returns what follows the first `count` lines of a text, which is empty if the text has no more lines.
 fn text_after_lines(text: &[u8], count: usize) -> &[u8]
     ensures { complete_lines result.now ≡ drop count (complete_lines text.now) }
 {
@@ -163,8 +164,7 @@ fn skip_equal_lines<'a>(actual: &'a [u8], expected: &'a [u8]) -> Divergence<'a>
     parting
 }
 
-// Returns how many leading lines of two texts differ before the first pair of equal ones, where each line is compared with the line of its
-// number in the other text; at most `most`.
+// Compares two texts line by line, and returns how many lines differ before the first one that is equal in both, but at most `most`.
 fn differing_line_count(most: usize, actual: &[u8], expected: &[u8]) -> usize
     ensures { result ≡ differing_line_count most (complete_lines actual.now) (complete_lines expected.now) }
 {

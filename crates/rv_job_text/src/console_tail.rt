@@ -10,7 +10,7 @@ use std::alloc::AllocError;
 /// The maximum number of lines that are shown of a console's end.
 pub const MAX_TAIL_LINES: usize = 10;
 
-/// The number of bytes at a console's end from which the lines are taken.
+/// The maximum number of bytes at a console's end from which the lines are taken.
 pub const MAX_TAIL_BYTES: usize = 1_024;
 
 /// Appends the last lines of a console, at most [`MAX_TAIL_LINES`] of them, taken from its last [`MAX_TAIL_BYTES`] bytes. Each line follows
@@ -42,7 +42,7 @@ fn push_later_lines(bytes: &mut Vec<u8>, text: &[u8], earlier: usize) -> Result<
     Ok(())
 }
 
-// Appends a line of a console after a margin, with a line feed.
+// Appends a margin, a line of a console, and a line feed.
 fn push_console_line(bytes: &mut Vec<u8>, line: &[u8]) -> Result<(), AllocError>
     ensures { OnOk result (bytes.new.items ≡ bytes.old.items ++ console_tail_line line.now) }
 {

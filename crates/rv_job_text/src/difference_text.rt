@@ -9,8 +9,8 @@ use rv_rows::ExpectedConsole;
 use rv_text::{Span, actual_and_expected_from, push_spans, push_text};
 use std::alloc::AllocError;
 
-/// Appends the message that the console `actual` differs from the expected one, and where. `file` is the contents of the file with the
-/// expected text, if the list names one and it was read.
+/// Appends the message that the console `actual` differs from the expected one, and where, or `no console` if none is expected. `file` is
+/// the contents of the file with the expected text, if the list names one and it was read.
 #[tactic(auto, unfolding(crate::specs::UnmetLines::console_difference_text, crate::specs::UnmetLines::expected_console_text))]
 pub(crate) fn push_console_difference(
     bytes: &mut Vec<u8>,
@@ -61,7 +61,8 @@ pub(crate) fn bytes_or_empty(file: Option<&[u8]>) -> &[u8]
     }
 }
 
-/// Appends at which byte `actual` first differs from `expected`, or the lengths if one of them is the start of the other.
+/// Appends where `actual` first differs from `expected`: the byte, or the lengths if one of them is the start of the other. If `expected`
+/// was not read, appends that.
 #[tactic(auto, unfolding(crate::specs::UnmetLines::bytes_difference_text))]
 pub(crate) fn push_bytes_difference(
     bytes: &mut Vec<u8>,

@@ -23,8 +23,8 @@ pub struct TraceOptions {
     pub budget_use: Option<BudgetUse>,
 }
 
-/// Returns how the run of the job at an index used up its budget, which takes as long as two more runs, or `None` if it ended in another
-/// way.
+/// Returns how the run of the job at an index used up its budget; finding this out takes as long as two more runs. Returns `None` if the
+/// run ended in another way, or if the job has no valid image.
 pub fn budget_use_at(
     alloc: Global,
     plan: &Plan,
@@ -77,8 +77,8 @@ impl<'a> JobRow<'a> {
         }
     }
 
-    /// Appends the line with the calls that had not returned when the run ended, or nothing if all had. Runs the job once more, one
-    /// instruction at a time.
+    /// Appends the line with the calls that had not returned when the run ended. Appends nothing if all had returned, or if the job has no
+    /// valid image. Runs the job once more, one instruction at a time.
     #[tactic(auto, unfolding(crate::specs::RowReporter::calls_lines))]
     pub(crate) fn push_calls(&self, alloc: Global, text: &mut Vec<u8>) -> Result<(), AllocError>
         ensures { OnOk result ((d : AJob) → text.new.items ≡ text.old.items

@@ -16,7 +16,7 @@ pub(crate) struct ExpectedText<'a> {
     pub(crate) text: &'a [u8],
 }
 
-/// Returns the expected text if an unmet expectation is one of the console and the difference is shown line by line; else `None`.
+/// Returns the expected console text if the unmet expectation is about the console and its difference is shown line by line; else `None`.
 pub(crate) fn expected_by_lines<'a>(
     comparison: &Comparison<'a, '_>,
     unmet: UnmetExpectation,
@@ -37,7 +37,7 @@ pub(crate) fn expected_by_lines<'a>(
 }
 
 // Returns the expected console text and its name, or `None` if no console is expected. The text is in the list, or it is `file`, the
-// contents of the file that the list names.
+// contents of the file that the list names, which are empty if it was not read.
 fn expected_console<'a>(
     expected: &'a Option<ExpectedConsole>,
     file: Option<&'a [u8]>,

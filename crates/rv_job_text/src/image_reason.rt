@@ -34,7 +34,7 @@ pub(crate) fn push_image_reason(
     }
 }
 
-// Appends the reason why an image that can be parsed was refused, with details of its segments or symbols.
+// Appends the reason why an image that can be parsed was refused, with details if it is about segments or symbols.
 #[tactic(auto, unfolding(crate::specs::ImageReasons::image_details_text))]
 fn push_image_details(
     bytes: &mut Vec<u8>,
@@ -64,7 +64,7 @@ fn push_image_details(
     }
 }
 
-// Returns the reason why an image is refused, without details.
+// Returns the reason why an image was refused, without details.
 #[tactic(auto, unfolding(crate::specs::ImageReasons::image_error_sentence))]
 fn image_error_sentence(error: ImageError) -> &'static str
     ensures { result.now ≡ image_error_sentence error }
@@ -118,7 +118,7 @@ fn end_symbol_name(signature: &Option<Symbols>) -> Option<&[u8]>
     }
 }
 
-// Appends that a symbol of the signature is not defined, with its name if it is known.
+// Appends the message that a symbol of the signature is not defined, with its name if it is known.
 #[tactic(auto, unfolding(crate::specs::ImageReasons::missing_symbol_text))]
 fn push_missing_symbol(bytes: &mut Vec<u8>, name: Option<&[u8]>) -> Result<(), AllocError>
     ensures { OnOk result (bytes.new.items ≡ bytes.old.items
@@ -137,7 +137,8 @@ fn push_missing_symbol(bytes: &mut Vec<u8>, name: Option<&[u8]>) -> Result<(), A
     }
 }
 
-// Appends that a signature is not a sequence of words in one region, with its two symbols and the regions.
+// Appends the message that a signature is not a sequence of words in one region, with its two symbols and the regions if `signature` has
+// the symbols.
 #[tactic(auto, unfolding(crate::specs::ImageReasons::signature_range_text))]
 fn push_signature_range(
     bytes: &mut Vec<u8>,
@@ -164,7 +165,8 @@ fn push_signature_range(
     }
 }
 
-// Appends the names of the two symbols of a signature, each with its address if it is defined.
+// Appends the message that a signature is not a sequence of words in one region, with the names of its two symbols, each with its address
+// if it is defined.
 #[tactic(auto, unfolding(crate::specs::ImageReasons::signature_ends_text, crate::specs::ImageReasons::named_symbol_text))]
 fn push_signature_ends(
     bytes: &mut Vec<u8>,

@@ -34,7 +34,7 @@ impl<'a> JobFile<'a> {
     }
 
     /// Returns the address of the first word of the signature that these symbols delimit, or `None` if there is no signature or no valid
-    /// image, or if the symbol is not defined.
+    /// image, or if the first of the symbols is not defined.
     pub(crate) fn signature_begin(&self, names: &Option<Symbols>) -> Option<u32>
         requires { IfSome names.now (λ names. 0 < length names.begin) }
         ensures { result

@@ -10,7 +10,7 @@ use rv_calls::{ElfFile, image_bytes};
 use rv_rows::{Image, ImageError, Isa, Plan, read_image};
 use std::alloc::{AllocError, Global};
 
-/// The bytes of a job's image file, if they were read, and the image, if they are a valid one.
+/// The bytes of a job's image file, if they were read, and the image, if the bytes are a valid one.
 #[derive(Drop)]
 pub(crate) struct JobFile<'a> {
     /// The instruction set for which the file is parsed.

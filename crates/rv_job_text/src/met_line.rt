@@ -12,7 +12,7 @@ use rv_rows::Row;
 use rv_text::{Span, push_spans, push_text};
 use std::alloc::AllocError;
 
-/// Appends a line for each expectation of a job that its run meets, given the unmet ones.
+/// Appends a line for each expectation of a job that its run meets, given the unmet expectations.
 #[tactic(auto, unfolding(crate::specs::MetLines::met_lines))]
 pub(crate) fn push_met_lines(
     bytes: &mut Vec<u8>,
@@ -114,7 +114,7 @@ fn push_met_file<'a>(
     )
 }
 
-// Appends the expectation that a job has the same result as the job of the row `other`.
+// Appends the expectation that a job has the same result as the job of the row `other`, or as another job if there is no row.
 #[tactic(auto, unfolding(crate::specs::MetLines::same_as_job_text))]
 fn push_same_as_job(bytes: &mut Vec<u8>, other: Option<&Row>) -> Result<(), AllocError>
     ensures { OnOk result (bytes.new.items ≡ bytes.old.items

@@ -36,7 +36,7 @@ pub fn ending_reason(
     }
 }
 
-// Returns the reason why a job was refused, or `None` if the file in question is not known. `unread` lists the files that could not be
+// Returns the reason why a job was refused, or `None` if it is not known which file caused it. `unread` lists the files that could not be
 // read, with the causes.
 #[tactic(auto, unfolding(crate::specs::RefusalReasons::refusal_reason))]
 fn refusal_reason(
@@ -91,7 +91,7 @@ fn too_long_file_reason(alloc: Global, path: Option<&str>) -> Result<Option<Vec<
     }
 }
 
-// Returns the reason why an image file that was read was refused, or `None` if it was not read.
+// Returns the reason why the image in a file was refused, or `None` if the file was not read.
 fn image_refusal_text(
     alloc: Global,
     plan: &Plan,

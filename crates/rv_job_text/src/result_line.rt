@@ -15,7 +15,7 @@ use rv_rows::{FaultKind, Refusal, Row, RowEnd, SymbolAt};
 use rv_text::{Span, push_spans, push_symbol_in_brackets, push_text};
 use std::alloc::{AllocError, Global};
 
-/// What the line of a row shows of a job's end beyond the row.
+/// What the line of a row shows about a job's end that is not in the row.
 #[derive(Clone, Copy)]
 pub struct EndDetail<'a, 'b> {
     /// The symbol that the pc of a fault belongs to.
@@ -64,8 +64,8 @@ fn judgement_word(judgement: Judgement<'_>) -> &'static str
     }
 }
 
-// Appends how a run ended and, for a known failure, its reason. If the job passes although it is listed as a known failure, appends that
-// message instead.
+// Appends how a run ended and, for a known failure, its reason. For a job that passes although it is listed as a known failure, appends
+// only a message that says so.
 fn push_judged_ending(
     alloc: Global,
     bytes: &mut Vec<u8>,
@@ -116,7 +116,8 @@ fn push_now_passes(bytes: &mut Vec<u8>, path: &str) -> Result<(), AllocError>
     )
 }
 
-// Appends how a run ended, and after how many steps. A fault has its pc, with `symbol`, and its value; a refusal has its reason.
+// Appends how a run ended, and after how many steps. For a fault, also appends its pc, with `symbol`, and its value. A refusal has its
+// reason, and no steps.
 #[tactic(auto, unfolding(crate::specs::ResultLine::result_ending_text))]
 fn push_result_ending(
     alloc: Global,

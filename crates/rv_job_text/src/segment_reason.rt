@@ -12,7 +12,7 @@ use rv_rows::{Job, LoadAt, Region, Segment, segments_overlap};
 use rv_text::{Span, push_spans, push_text};
 use std::alloc::AllocError;
 
-/// Appends that a segment does not fit in one region, with the regions. `segment` is the segment, if it is known.
+/// Appends the message that a segment does not fit in one region, with its addresses and the regions if `segment` is known.
 #[tactic(auto, unfolding(crate::specs::ImageReasons::unfit_segment_text))]
 pub(crate) fn push_unfit_segment(
     bytes: &mut Vec<u8>,
@@ -31,7 +31,8 @@ pub(crate) fn push_unfit_segment(
     }
 }
 
-// Appends the addresses of the bytes of a segment that do not fit: those of the file, or, if these fit, those in memory.
+// Appends that a segment's bytes do not fit in one region, with their addresses: of its bytes from the file, or, if these fit, of its bytes
+// in memory.
 #[tactic(auto, unfolding(crate::specs::ImageReasons::outside_segment_text))]
 fn push_outside_segment(bytes: &mut Vec<u8>, job: &Job, segment: &Segment) -> Result<(), AllocError>
     ensures { OnOk result (bytes.new.items ≡ bytes.old.items
@@ -95,7 +96,7 @@ fn last_address_span(from: u32, count: u32) -> Span<'static>
     }
 }
 
-/// Appends that the file contents of two segments overlap, with the first two that do.
+/// Appends the message that the file contents of two segments overlap, with the addresses of the first two that do, if there are any.
 #[tactic(auto, unfolding(crate::specs::ImageReasons::segment_overlap_text))]
 pub(crate) fn push_segment_overlap(
     bytes: &mut Vec<u8>,
@@ -111,7 +112,7 @@ pub(crate) fn push_segment_overlap(
     }
 }
 
-// Appends that the file contents of two segments overlap, with the addresses to which they are loaded.
+// Appends the message that the file contents of two segments overlap, with the addresses to which they are loaded.
 #[tactic(auto, unfolding(crate::specs::ImageReasons::segment_pair_text))]
 fn push_segment_pair(
     bytes: &mut Vec<u8>,
@@ -140,7 +141,7 @@ fn push_segment_pair(
     )
 }
 
-// Returns the first segment that overlaps a later one, with the first of those, or `None` if no two segments overlap.
+// Returns the first segment that overlaps a later one, and the first later one that it overlaps, or `None` if no two segments overlap.
 fn overlapping_segments(at: LoadAt, segments: &[Segment]) -> Option<(Segment, Segment)>
     ensures { result ≡ overlapping_segments at segments.now }
 {

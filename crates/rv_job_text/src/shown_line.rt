@@ -16,8 +16,8 @@ const MAX_LINE_CHARACTERS: usize = 160;
 /// The maximum number of bytes of a long line that are shown before its first difference.
 const MAX_BYTES_BEFORE_DIFFERENCE: usize = 32;
 
-/// Appends the line `own` of one text after a margin. If it is long, it is shown around its first difference from the line `other` of the
-/// other text.
+/// Appends a margin, the line `own` of one text, and a note if it does not end with a line feed. A long line is shown around its first
+/// difference from `other`, the line of the other text.
 #[tactic(auto, unfolding(crate::specs::ConsoleLines::diff_line))]
 pub(crate) fn push_diff_line(
     bytes: &mut Vec<u8>,
@@ -69,8 +69,8 @@ fn push_text_from(bytes: &mut Vec<u8>, begin: usize, text: &[u8]) -> Result<(), 
     push_printable_text(bytes, &rest[..characters_len(MAX_LINE_CHARACTERS, rest)])
 }
 
-// Returns the offset from which a line with a difference at `offset` is shown: 0, or, if the line is long, the start of a character shortly
-// before the difference.
+// Returns the offset from which a line with a difference at `offset` is shown: 0 for a line of at most 160 characters; otherwise the first
+// start of a character that is at most 32 bytes before the difference.
 fn shown_offset(offset: usize, text: &[u8]) -> usize
     ensures { result ≡ shown_offset offset text.now }
 {
@@ -94,7 +94,7 @@ fn first_character_begin(text: &[u8]) -> usize
     text.len()
 }
 
-// Returns the number of bytes in the first `max_count` characters of a text, or the length of the text if it has no more characters.
+// Returns the number of bytes in the first `max_count` characters of a text, or its length if it has at most `max_count` characters.
 fn characters_len(max_count: usize, text: &[u8]) -> usize
     ensures len { result ≡ characters_len max_count text.now }
     ensures within { result ≤ length text.now }

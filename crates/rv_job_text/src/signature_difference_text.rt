@@ -11,8 +11,8 @@ use rv_rows::{WORD_LINE_LEN, Words};
 use rv_text::{Span, push_spans, push_text};
 use std::alloc::AllocError;
 
-/// Appends the message that a signature differs from the expected one, and where. `address` is the address of the signature's first word,
-/// if it is known.
+/// Appends the message that a signature differs from the expected one, and where, or `no signature` if none is expected. `address` is the
+/// address of the signature's first word, if it is known.
 #[tactic(auto, unfolding(crate::specs::UnmetLines::signature_difference_text))]
 pub(crate) fn push_signature_difference(
     bytes: &mut Vec<u8>,
@@ -35,8 +35,8 @@ pub(crate) fn push_signature_difference(
     push_reference_difference(bytes, address, words, reference, difference)
 }
 
-// Appends where the words of a signature first differ from `reference`, the text of a signature file. `first` is the address of the first
-// word, if it is known.
+// Appends where the words of a signature first differ from `reference`, the text of a signature file, or why they cannot be compared.
+// `first` is the address of the first word, if it is known.
 #[tactic(auto, unfolding(crate::specs::UnmetLines::reference_difference_text))]
 fn push_reference_difference(
     bytes: &mut Vec<u8>,
@@ -140,7 +140,7 @@ fn push_word_difference<'a>(
     push_spans(bytes, &[expected, Span::Text(", found "), actual])
 }
 
-// Appends the index of a word, and its address if `first`, the address of the first word, is known.
+// Appends the index of a word, its address if `first`, the address of the first word, is known, and `: expected `.
 #[tactic(auto, unfolding(crate::specs::UnmetLines::word_location_text))]
 fn push_word_location(
     bytes: &mut Vec<u8>,

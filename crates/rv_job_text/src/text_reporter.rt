@@ -46,7 +46,7 @@ impl<'a> RowReporter for TextReporter<'a> {
 
     ghost line = { λ reporter index row. row_lines_at (reporter_of reporter) index row };
 
-    // Appends all lines of the row of the job at an index, or nothing if there is no such job or the row is not shown.
+    // Appends all lines of a row, or nothing if the row is not shown or the plan has no job at the index `index`.
     #[tactic(auto, unfolding(crate::specs::RowReporter::row_lines_at))]
     fn push_row_text(
         &self,
@@ -63,7 +63,7 @@ impl<'a> RowReporter for TextReporter<'a> {
 }
 
 impl<'a> TextReporter<'a> {
-    // Appends all lines of the row of the job at an index, or nothing if the row is not shown.
+    // Appends all lines of a row, or nothing if the row is not shown. `index` is the index of its job.
     #[tactic(auto, unfolding(crate::specs::RowReporter::row_lines))]
     fn push_row_lines(
         &self,
@@ -95,9 +95,9 @@ impl<'a> TextReporter<'a> {
         .push_run_lines(alloc, self.last, text)
     }
 
-    /// Appends an explanation of the row of the job at an index, whatever the verbosity: the line of the row and, if the job ran, its
-    /// expectations with the unmet ones first, the end of its console, how it used up its budget, the trace of its end, and the calls that
-    /// had not returned.
+    /// Appends an explanation of a row, whatever the verbosity: the row's own line and, if the job ran, its expectations with the unmet
+    /// ones first, the end of its console, how it used up its budget, the trace of its end, and the calls that had not returned. `index` is
+    /// the index of the job.
     #[tactic(auto, unfolding(crate::specs::RowReporter::explanation_text))]
     pub fn push_job_explanation(
         &self,
@@ -127,7 +127,7 @@ impl<'a> TextReporter<'a> {
         .push_run_explanation(alloc, options, text)
     }
 
-    /// Appends the line of the row of the job at an index, whatever the verbosity, and the unmet expectations if the job ran.
+    /// Appends a row's own line, whatever the verbosity, and the unmet expectations if the job ran. `index` is the index of the job.
     #[tactic(auto, unfolding(crate::specs::RowReporter::outcome_text))]
     pub fn push_outcome(
         &self,
@@ -156,8 +156,8 @@ impl<'a> TextReporter<'a> {
         .push_expectation_lines(alloc, Detail::UnmetExpectation, text)
     }
 
-    /// Appends only the line of the row of the job at an index, whatever the verbosity. The image is parsed only if the run ended with a
-    /// fault.
+    /// Appends only a row's own line, whatever the verbosity. `index` is the index of its job. The image is parsed only if the run ended
+    /// with a fault.
     #[tactic(auto, unfolding(crate::specs::ImageSymbols::fault_symbol))]
     pub fn push_only_row_line(
         &self,
@@ -182,7 +182,7 @@ impl<'a> TextReporter<'a> {
         }
     }
 
-    // Appends the line of the row of the job at an index. `symbol` is the symbol of a fault's pc.
+    // Appends a row's own line. `index` is the index of its job, and `symbol` is the symbol of a fault's pc.
     #[tactic(auto, unfolding(crate::specs::RowReporter::row_line))]
     fn push_row_line(
         &self,
@@ -220,8 +220,8 @@ fn reason_bytes(reason: &Option<Vec<u8>>) -> Option<&[u8]>
 }
 
 impl<'a> JobRow<'a> {
-    // Appends the lines of a failed run after its first: the unmet expectations, the end of the console and, if `last` is given, the trace
-    // of its end.
+    // Appends the lines of a failed run after its first line: the unmet expectations, the end of the console and, if `last` is given, the
+    // trace of its end.
     #[tactic(auto, unfolding(crate::specs::RowReporter::run_lines))]
     fn push_run_lines(
         &self,

@@ -11,8 +11,8 @@ use rv_rows::{Plan, Row};
 use rv_text::{Span, push_spans, push_text};
 use std::alloc::AllocError;
 
-/// Appends the last line for the rows of a report: the number of jobs, how many passed and failed, the number of failures by how the run
-/// ended, the number of known failures, and the total steps.
+/// Appends the last line for the rows of a report: the number of jobs, how many passed and failed, the number of failures for each way in
+/// which their runs ended, the number of known failures, and the total steps.
 pub fn push_totals_line(
     bytes: &mut Vec<u8>,
     judge: &Judge<'_>,
@@ -35,7 +35,7 @@ pub struct RunRows<'a> {
 }
 
 /// Appends the last line of a run with these rows. It is like the line of [`push_totals_line`], but counts failures by their first unmet
-/// expectation, and ends with `hidden`, the number of jobs that have no row because a failure stopped the run.
+/// expectation. It ends with `hidden`, the number of jobs that have no row because a failure stopped the run, unless this is 0.
 pub fn push_run_totals_line(
     bytes: &mut Vec<u8>,
     judge: &Judge<'_>,
@@ -105,7 +105,7 @@ pub fn job_word(count: usize) -> &'static str
     if count == 1 { " job" } else { " jobs" }
 }
 
-// Appends the number of known failures, or nothing if there are none.
+// Appends a comma and the number of known failures, or nothing if there are none.
 fn push_known_count(bytes: &mut Vec<u8>, count: usize) -> Result<(), AllocError>
     ensures { OnOk result (bytes.new.items ≡ bytes.old.items ++ known_count_text count) }
 {
@@ -169,7 +169,7 @@ fn push_hidden_count(bytes: &mut Vec<u8>, hidden: usize) -> Result<(), AllocErro
     )
 }
 
-// Appends the sum of the steps of all jobs.
+// Appends a comma and the number of steps.
 fn push_total_steps(bytes: &mut Vec<u8>, steps: u64) -> Result<(), AllocError>
     ensures { OnOk result (bytes.new.items ≡ bytes.old.items
         ++ (codes ", " ++ count_text steps (codes "step"))) }

@@ -117,7 +117,7 @@ fn push_unmet_expectation(
     }
 }
 
-/// Appends the expected exit code as `exit CODE`.
+/// Appends the expected exit code as `exit CODE`, or `an exit` if there is none.
 #[tactic(auto, unfolding(crate::specs::UnmetLines::expected_exit_text))]
 pub(crate) fn push_expected_exit(
     bytes: &mut Vec<u8>,
@@ -131,7 +131,7 @@ pub(crate) fn push_expected_exit(
     }
 }
 
-/// Appends the expected end: `budget used up`, or `fault KIND`.
+/// Appends the expected end: `budget used up` or `fault KIND`, or `another end` if there is none.
 #[tactic(auto, unfolding(crate::specs::UnmetLines::expected_end_text))]
 pub(crate) fn push_expected_end(
     bytes: &mut Vec<u8>,
@@ -148,8 +148,8 @@ pub(crate) fn push_expected_end(
     }
 }
 
-// Appends the message that the result of a job differs from the result of the job that its `same_as` names. `other` is the row of that job,
-// if it was run.
+// Appends the expectation that a job has the same result as the job that its `same_as` names, and how the two results differ. `other` is
+// the row of that job, if it was run.
 #[tactic(auto, unfolding(crate::specs::UnmetLines::same_difference_text))]
 fn push_same_difference(
     bytes: &mut Vec<u8>,
@@ -168,7 +168,8 @@ fn push_same_difference(
     push_rows_difference(bytes, first, row, other, difference)
 }
 
-// Appends the first difference between the row of a job and `other`, the row of the job that its `same_as` names.
+// Appends the first difference between the row of a job and `other`, the row of the job that its `same_as` names; or that the other job was
+// not run.
 #[tactic(auto, unfolding(crate::specs::UnmetLines::rows_difference_text))]
 fn push_rows_difference(
     bytes: &mut Vec<u8>,

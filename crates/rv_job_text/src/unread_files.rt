@@ -47,7 +47,7 @@ fn unread_note<'a>(unread: &'a [UnreadablePath], path: &str) -> Option<&'a Unrea
     unread.iter().find(|one| path == one.path.as_str())
 }
 
-// Returns the cause why a file could not be read, or `cannot be read` if there is no entry for it.
+// Returns the reason why a file could not be read, or `cannot be read` if there is no entry for it.
 fn unread_note_text(noted: Option<&UnreadablePath>) -> &'static str
     ensures { result.now ≡ unread_note_text (option_map (λ one. one.now) noted.entry) }
 {

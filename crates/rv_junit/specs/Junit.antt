@@ -30,7 +30,7 @@ first_line text = text_up_to (position is_line_feed text) text
 abbrev pub problem_element_name : Row → List ℕ
 problem_element_name row = if did_run row.ending then codes "failure" else codes "error"
 
--- the XML element for a failed row; its text is `lines`, and the first of these is its message
+-- the XML element for a failed row; its text is `lines`, and its message is the first line
 unfoldable pub problem_text : Row → List ℕ → List ℕ
 problem_text row lines =
     codes "<" ++ problem_element_name row ++ attribute (codes "message") (first_line lines) ++ codes ">"
@@ -44,7 +44,8 @@ reason_attribute reason = if length reason == 0 then [] else attribute (codes "m
 unfoldable pub skipped_text : List ℕ → List ℕ
 skipped_text reason = codes "<skipped" ++ reason_attribute reason ++ codes "/>\n"
 
--- the XML element for the judgement of a row: a problem if the row is a failure, `skipped` for a known failure, and empty if the row passed
+-- the XML element that shows how a row was judged: `failure` or `error` if it is a failure, `skipped` for a known failure; empty if the row
+-- passed
 abbrev pub judged_text : JudgementView → Row → List ℕ → List ℕ
 judged_text passed row lines = []
 judged_text failed row lines = problem_text row lines
@@ -63,7 +64,7 @@ test_case_text suite_name judging row lines =
     codes "<testcase" ++ attribute (codes "classname") suite_name ++ attribute (codes "name") row.name
     ++ codes ">\n" ++ judged_text (judgement judging row) row lines ++ output_text row ++ codes "</testcase>\n"
 
--- the test case of the row of the job at this index, with the lines that `line` makes for them
+-- the test case of the row of the job at this index, with the lines that `line` returns for the index and the row
 abbrev pub case_text : List ℕ → JudgeView → (ℕ → Row → List ℕ) → ℕ → Row → List ℕ
 case_text suite_name judging line index row = test_case_text suite_name judging row (line index row)
 
@@ -83,7 +84,7 @@ steps_properties rows = codes "<properties>\n" ++ flat_map steps_property rows +
 abbrev pub skipped_attribute : ℕ → List ℕ
 skipped_attribute count = if count == 0 then [] else number_attribute (codes "skipped") count
 
--- the beginning of a document: the suite's name and counts, and the steps of the rows
+-- the beginning of a document: the XML declaration, the suite's name and counts, and the number of steps of each row
 unfoldable pub suite_begin_text : List ℕ → JudgeView → List Row → List ℕ
 suite_begin_text suite_name judging rows =
     codes "<?xml version=\"1.0\" encoding=\"UTF-8\"?>\n<testsuites>\n<testsuite"

@@ -75,8 +75,8 @@ impl<T: RowReporter> Cases<'_, T> {
     }
 }
 
-/// Appends the test cases to the buffer `text`, and writes the buffer to the sink whenever it is large; what was not written stays in
-/// `text`. After an error, a prefix of the text was written.
+/// Appends the test cases to the buffer `text`, and writes the buffer to the sink whenever it has at least 32 KiB. What was
+/// not written stays in `text`. After an error, the sink has received a prefix of the old contents of `text` and the test cases.
 pub(crate) fn write_cases<T: RowReporter, W: Sink>(
     alloc: Global,
     text: &mut Vec<u8>,
@@ -94,7 +94,7 @@ pub(crate) fn write_cases<T: RowReporter, W: Sink>(
         cases.now.indices.now cases.now.rows.now)) }
     ensures failed { IfErr result (λ error. error ≡ WriteError.Failed
         → W.failure_count out.new ≡ one_more (W.failure_count out.old)) }
-    // If an allocation failed, no write did.
+    // If an allocation failed, no write failed.
     ensures no_write_failed { IfErr result (λ error. error ≡ WriteError.OutOfMemory
         → W.failure_count out.new ≡ W.failure_count out.old) }
 {
@@ -105,7 +105,7 @@ pub(crate) fn write_cases<T: RowReporter, W: Sink>(
     Ok(())
 }
 
-// Writes and empties the buffer if it is large.
+// Writes and empties the buffer if it has at least 32 KiB.
 fn write_if_large<W: Sink>(text: &mut Vec<u8>, out: &mut W) -> Result<(), WriteError>
     ensures partly_written { OnOk result (IsPartlyWritten (W.accepted out.old) (W.accepted out.new)
         text.new.items text.old.items) }

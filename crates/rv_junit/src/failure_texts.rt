@@ -45,7 +45,8 @@ impl<'k, J: StreamSpec> FailureTexts<'k, J> {
         }
     }
 
-    /// Returns the stored texts, indexed by row. The list is empty if the texts were not needed or an allocation failed.
+    /// Returns an entry for each row, in order, with its text if it was stored. Returns an empty list if the texts were not needed or an
+    /// allocation failed.
     pub fn into_texts(self) -> Vec<Option<Vec<u8>>>
         ensures items { result.items ≡ self.entry.texts.items }
         ensures needed { self.entry.is_closed ≡ false → J.keeps_failure_texts ≡ true }
@@ -72,7 +73,7 @@ impl<J: StreamSpec> Observer<ReportedRow> for FailureTexts<'_, J> {
 
     ghost stops = { λ _. ⊥ };
 
-    // Stores the text of a row that is a failure. If the list cannot grow, drops all texts and stores no more.
+    // Adds an entry for the row, with its text if it is a failure. If the list cannot grow, drops all texts and stores no more.
     fn see(&mut self, output: &ReportedRow) -> Flow {
         if self.is_closed {
             return Flow::Continue;

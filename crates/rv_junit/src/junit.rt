@@ -14,7 +14,7 @@ use rv_job_text::{Judge, Judgement, did_run, is_error, is_failure, known_count, 
 use rv_stream::Row;
 use std::alloc::{AllocError, Global};
 
-/// Appends the beginning of a document: the declaration, the suite's name and counts, and the steps of the rows.
+/// Appends the beginning of a document: the XML declaration, the suite's name and counts, and the number of steps of each row.
 pub(crate) fn push_suite_begin(
     alloc: Global,
     text: &mut String,
@@ -154,8 +154,8 @@ pub(crate) fn push_test_case<'a>(
     )
 }
 
-// Appends the XML element for the judgement of a row: a problem if the row is a failure, `skipped` for a known failure, and nothing if the
-// row passed. A job that passes although it is listed as a known failure is a failure.
+// Appends the XML element that shows how a row was judged: `failure` or `error` if it is a failure, `skipped` for a known failure, and
+// nothing if the row passed. A job that passes although it is listed as a known failure is a failure.
 fn push_judgement(
     alloc: Global,
     text: &mut String,
@@ -193,7 +193,7 @@ fn push_reason_attribute(alloc: Global, text: &mut String, reason: &[u8]) -> Res
     push_attribute(alloc, text, "message", reason)
 }
 
-// Appends the XML element for a failed row. Its text is `lines`, and the first of these is its message.
+// Appends the XML element for a failed row. Its text is `lines`, and its message is the first line.
 #[tactic(auto, unfolding(crate::specs::Junit::problem_text))]
 fn push_problem(alloc: Global, text: &mut String, row: &Row, lines: &[u8]) -> Result<(), AllocError>
     ensures { OnOk result (string_bytes text.new

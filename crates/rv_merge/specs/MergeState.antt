@@ -31,7 +31,7 @@ pub record IsTextOf (report : SavedReport) (bytes : List ℕ) : Type 0 where
   pub saved : IsValidReport report
   pub text : saved_text report ≡ bytes
 
--- the extent is not a shard, but a whole list or chosen jobs; `flaw` says which of these it is
+-- the extent is not a shard, but a whole list or selected jobs; `flaw` says which of these it is
 abbrev pub IsExtentFlaw : Flaw → Extent → Type 0
 IsExtentFlaw flaw.Whole jobs = jobs ≡ extent.Whole
 IsExtentFlaw flaw.Selection jobs = (count : ℕ) × (jobs ≡ extent.Selection count)

@@ -43,7 +43,7 @@ pub record IsReportWithExtent (extent_in_report : Extent) (bytes : List ℕ) : T
   pub text : saved_text report ≡ bytes
   pub extent : report.extent ≡ extent_in_report
 
--- the bytes are the report of shard `n` of a run, which has under each job number the row of this job among `rows`
+-- the bytes are the report of shard `n` of a run; each row of the report is the row in `rows` of the job with the same number
 pub record IsPartOfRows (rows : List Row) (run : Run) (n : ℕ) (bytes : List ℕ) : Type 0 where
   pub of : IsReportWithExtent (extent.Shard (shard_in run n)) bytes
   pub has : map (λ m. slice_get rows (m - 1)) of.report.numbers ≡ map Some of.report.rows

@@ -77,7 +77,7 @@ HasFlaw texts index (flaw.DifferentText earlier) =
     (earlier < index) × AreDifferentReports (nth_text texts earlier) (nth_text texts index)
 HasFlaw texts index (flaw.RepeatedName n) = HasRepeatedName texts (nth_text texts index) n
 
--- the bytes are the report of a shard of the run other than shard `n`
+-- the bytes are the report of a shard of the run, but not of shard `n`
 abbrev pub IsOtherPart : Run → ℕ → List ℕ → Type 0
 IsOtherPart run n bytes =
     (other : ℕ) × IsReportWithExtent (extent.Shard (shard_in run other)) bytes × (other ≡ n → ⊥)
@@ -90,7 +90,7 @@ pub record IsMissingShard (n : ℕ) (texts : List (List ℕ)) : Type 0 where
   pub each : All (IsOtherPart run n) texts
   pub some : 0 < length texts
 
--- the texts have this error, so that they are not the parts of one run; memory may always run out
+-- the error is correct for the texts: it says why they are not the parts of one run; `OutOfMemory` is always correct
 abbrev pub HasMergeError : List (List ℕ) → MergeError → Type 0
 HasMergeError texts error.OutOfMemory = Unit {0}
 HasMergeError texts error.NoTexts = texts ≡ []

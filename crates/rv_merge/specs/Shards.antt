@@ -34,14 +34,14 @@ shard_report run n plan = record {
   rows = rows_at plan (shard_indices run.shards n run.jobs);
 }
 
--- the run is one of this list, in up to `max_jobs` shards and with a valid stamp
+-- the run is a run of this list, in up to `max_jobs` shards and with a valid stamp
 pub record IsRunOf (list : List Job) (run : Run) : Type 0 where
   pub jobs : run.jobs ≡ length list
   pub some : 0 < run.shards
   pub few : run.shards ≤ max_jobs
   pub stamp : is_name run.stamp ≡ true
 
--- the bytes are the report of shard `n`, whose run had the same result of reading as `answers` for each path that the shard's jobs need
+-- the bytes are the report of shard `n`; for each path that the shard's jobs need, its run had the same result of reading as `answers`
 pub record IsShardText (list : List Job) (answers : List PathResult) (run : Run) (n : ℕ)
     (bytes : List ℕ) : Type 0 where
   pub low : 0 < n

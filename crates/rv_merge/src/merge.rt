@@ -15,8 +15,8 @@ use crate::part::part_at;
 use rv_rows::{Row, Rows};
 use std::alloc::{AllocError, Global};
 
-/// Returns the rows of the list whose parts these texts are, in any order and possibly repeated, or the reason why they are not the parts
-/// of one run. Needs memory for the rows, and for reading one text after another.
+/// Returns the rows of the list if these texts are its parts, in any order and possibly repeated, and otherwise the reason why they are not
+/// the parts of one run. Needs memory for the rows, and for reading one text after another.
 pub fn merge_parts(alloc: Global, texts: &[&[u8]]) -> Result<Rows, MergeError>
     // The texts are the parts of one run of these rows.
     ensures rows { IfOk result (λ rows. AreParts rows (bytes_of_texts texts.now)) }

@@ -195,7 +195,7 @@ a.elf: 20000 steps
             1   0.01%          1   0.01%         1  once
 ";
 
-// A run that ended before its first instruction was executed, and a run of one step.
+// A run that ended before its first instruction was executed, a run of one step, and a table without the image.
 const NONE_AND_ONE: [(&str, &str); 3] = [
     (
         "rvcounts 1\nimage e3b0c44298fc1c149afbf4c8996fb92427ae41e4649b934ca495991b7852b855 a.elf\nspot 0 00000000 1 0 ?\ndone 1 1\n",

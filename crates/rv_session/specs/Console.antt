@@ -8,8 +8,7 @@ use Rattle.rv_session.specs.declared.session.Session.{Session}
 abbrev pub console_of_run : Session → List ℕ
 console_of_run session = (state_at session (last_step session.history.budget session.history.start)).bus.output
 
--- `console_sent` is the console output that was sent to gdb: the prefix of the output of the whole run that has the length which the
--- session records
+-- `console_sent` is the console output that was sent to gdb: the first `session.console_sent` bytes of the output of the whole run
 pub record HasSentConsole (session : Session) (console_sent : List ℕ) : Type 0 where
   pub first_bytes : console_sent ≡ take session.console_sent (console_of_run session)
   pub within : session.console_sent ≤ length (console_of_run session)

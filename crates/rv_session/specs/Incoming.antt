@@ -80,8 +80,8 @@ pub record IsPacketResponse (session : Session) (body out : List ℕ) (next : Se
   pub out_is : out ≡ acknowledgement session ++ packets_of reply
   pub next_is : next ≡ with_sent after_reply reply
 
--- what happens when a packet with this body is received: if the Bool says that it is rejected, `-` is sent, which requests it again;
--- otherwise, the acknowledgement and the reply
+-- what happens when a packet with this body is received: if the Bool says that it is rejected, `-` is sent, which requests the packet
+-- again; otherwise, the acknowledgement and the reply
 abbrev pub IsCheckedPacketResponse : Session → Bool → List ℕ → List ℕ → Session → Type 0
 IsCheckedPacketResponse session true body out next = (out ≡ 45 ∷ []) × (next ≡ session)
 IsCheckedPacketResponse session false body out next = IsPacketResponse session body out next

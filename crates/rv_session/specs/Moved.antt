@@ -1,4 +1,4 @@
--- Moves in the run, and the stops that they report.
+-- Moves in the run, and the stops that are reported after them.
 use Rattle.std.specs.Prelude.{ℕ, List, [], ◌≡◌, ◌+◌, ◌-◌, ◌<◌, Bool, true, false, Option, Some, None, drop, if◌then◌else◌, length, max}
 use Rattle.rv_history.specs.Moves.{IsInterrupted, IsNextStep, IsNextStop, IsStepBack, IsStopBefore}
 use Rattle.rv_history.specs.Places.{last_step}
@@ -40,13 +40,13 @@ IsMoveResult (move.StepWithin low high) stops budget start from step outcome =
 IsMoveResult move.ContinueBack stops budget start from step outcome = IsStopBefore stops budget start from step outcome
 IsMoveResult move.StepBack stops budget start from step outcome = IsStepBack stops budget start from step outcome
 
--- the stop that this end of the run reports
+-- the stop that the session reports for this end of the run
 abbrev pub end_stop : Ending → Stop
 end_stop (ending.Exit code) = stop.Exit
 end_stop (ending.Fault kind pc value) = stop.Fault kind
 end_stop ending.Budget = stop.Budget
 
--- the stop that a watchpoint hit reports; a stop without a reason if there is none
+-- the stop that the session reports for a watchpoint hit; a stop without a reason if there is none
 abbrev pub stop_of_watch_hit : Option WatchHit → Stop
 stop_of_watch_hit (Some (watch_hit.Change address)) = stop.Watch watch.Writes address
 stop_of_watch_hit (Some (watch_hit.Read address)) = stop.Watch watch.Reads address
@@ -57,8 +57,8 @@ stop_of_watch_hit None = stop.Trap
 abbrev pub watch_between : Session → ℕ → ℕ → Option WatchHit
 watch_between session first second = first_triggered session.stops (state_at session first) (state_at session second)
 
--- the stop that a watchpoint hit at the step `step` reports: after a forward move, the step that would come next triggers the watchpoint;
--- after a backward move, the preceding step did
+-- the stop that the session reports for a watchpoint hit at the step `step`: after a forward move, the step that would come next triggers
+-- the watchpoint; after a backward move, the preceding step did
 abbrev pub watch_stop : Session → Move → ℕ → Stop
 watch_stop session requested step = stop_of_watch_hit
     (if is_forward requested then watch_between session step (step + 1) else watch_between session (step - 1) step)
@@ -69,7 +69,7 @@ abbrev pub CanReportHit : Session → Move → MoveResult → Type 0
 CanReportHit session requested what = what ≡ move_result.WatchTriggered → is_forward requested ≡ true
     → session.history.step < last_step session.history.budget session.history.start
 
--- the stop that a move to the step `step` with the result `outcome` reports
+-- the stop that the session reports after the move `requested` ended at the step `step`; the last argument says why it ended there
 abbrev pub stop_of : Session → Move → ℕ → MoveResult → Stop
 stop_of session requested step move_result.Done = stop.Trap
 stop_of session requested step move_result.Breakpoint = stop.Trap

@@ -49,12 +49,12 @@ abbrev pub can_be_set : BusContents → Stoppoint → Bool
 can_be_set bus (stoppoint.Break address) = true
 can_be_set bus (stoppoint.Watch kind range) = nat_le (range.address + range.count) 4294967296 && has_byte bus range
 
--- whether there are as many breakpoints and watchpoints as allowed
+-- whether there is the maximum number of breakpoints and watchpoints
 abbrev pub is_full : Stops → Bool
 is_full stops = nat_le max_stoppoints ((length stops.breaks + length stops.watches) + (length stops.reads + length stops.accesses))
 
--- why the breakpoint or watchpoint cannot be set: it is invalid, or there are as many as allowed and it is not set already; `None` if it
--- can be set
+-- why the breakpoint or watchpoint cannot be set: it is invalid, or it is not set already and there is the maximum number; `None` if it can
+-- be set
 abbrev pub stoppoint_refusal : Stops → BusContents → Stoppoint → Option Refusal
 stoppoint_refusal stops bus stoppoint =
     if not (can_be_set bus stoppoint) then Some refusal.Malformed

@@ -40,7 +40,7 @@ pub fn console_is_sent_only_for_moves()
 {}
 
 /// Proves that a move reports how the run ended if it reaches the end, and otherwise no end, and that the text about the run's end is sent
-/// exactly with a stop at the end.
+/// if and only if the stop is at the end.
 pub fn ends_are_reported()
     ensures { (end_text : List ℕ) (may_break : Bool) (session next : Session) (requested : Move) (reply : Reply)
         (moved : IsMoved end_text may_break session requested reply next)

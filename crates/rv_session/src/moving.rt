@@ -1,4 +1,4 @@
-//! Moves in the run, and the stops that they report.
+//! Moves in the run, and the stops that are reported after them.
 
 ghost use Rattle.std.specs.Prelude.{◌≡◌, IfOk, None, OnOk, is_some, true};
 ghost use Rattle.rv_history.specs.Moves.{IsInterrupted};
@@ -86,7 +86,7 @@ impl Session {
         }
     }
 
-    // Returns the stop that a move with this result reports.
+    // Returns the stop that the session reports after a move with this result.
     fn stop_of(
         &self,
         alloc: Global,
@@ -105,8 +105,8 @@ impl Session {
         }
     }
 
-    // Returns the stop that a watchpoint hit reports. After a forward move, the step that would come next triggers the watchpoint; after a
-    // backward move, the preceding step did.
+    // Returns the stop that the session reports for a watchpoint hit. After a forward move, the step that would come next triggers the
+    // watchpoint; after a backward move, the preceding step did.
     fn watch_stop(&self, alloc: Global, requested: Move) -> Result<Stop, AllocError>
         requires { CanReportHit self.now requested outcome.WatchTriggered }
         ensures { IfOk result (λ stop. stop ≡ watch_stop self.now requested self.now.history.step) }
@@ -193,7 +193,7 @@ fn is_forward(requested: Move) -> bool
     }
 }
 
-// Returns the stop that a watchpoint hit reports. If there is none, it is a stop without a reason.
+// Returns the stop that the session reports for a watchpoint hit. If there is none, it is a stop without a reason.
 fn stop_of_watch_hit(hit: Option<WatchHit>) -> Stop
     ensures { result ≡ stop_of_watch_hit hit }
 {
@@ -205,7 +205,7 @@ fn stop_of_watch_hit(hit: Option<WatchHit>) -> Stop
     }
 }
 
-// Returns the stop that this end of the run reports.
+// Returns the stop that the session reports for this end of the run.
 fn end_stop(ending: Ending) -> Stop
     ensures { result ≡ end_stop ending }
 {

@@ -41,7 +41,7 @@ pub(crate) fn without_stoppoint(
     }
 }
 
-// Whether there are as many breakpoints and watchpoints as allowed.
+// Whether there is the maximum number of breakpoints and watchpoints.
 fn is_full(stops: &Stops) -> bool
     ensures { result ≡ is_full stops.now }
 {

@@ -56,7 +56,7 @@ all_calls nodes = weighted_sum (λ p n. n.calls) nodes
 abbrev pub all_steps : List WalkNode → ℕ
 all_steps nodes = weighted_sum (λ p n. n.steps) nodes
 
--- whether a node has neither entries nor instructions
+-- whether a node has no calls and no steps
 abbrev pub is_empty : WalkNode → Bool
 is_empty n = (n.calls == 0) && (n.steps == 0)
 
@@ -85,7 +85,7 @@ pub record HasChild (parent function : ℕ) (old : List WalkNode) (number : ℕ)
 
 -- ---- counting in a node
 
--- the nodes `new` are as many as the nodes `old`, and each has the same path
+-- `new` has as many nodes as `old`, and each node has the same path in both
 pub record KeepsPaths (old new : List WalkNode) : Type 0 where
   pub long : length new ≡ length old
   pub paths : paths_of new ≡ paths_of old

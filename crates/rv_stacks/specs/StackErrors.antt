@@ -5,12 +5,13 @@ use Rattle.rv_stacks.specs.StackTables.{HaveNoTableWithStacks, IsOfNamesOrMemory
 use Rattle.rv_stacks.specs.declared.batch.CountError.{CountError}
 use Rattle.rv_stacks.specs.declared.batch.CountError.TheVariants.{Run, Sum}
 
--- why the jobs at these indices have no table: their run failed, or memory ran out, or the tables of some of them cannot be added
+-- the error is a correct reason why the jobs at these indices have no table: for `Sum`, memory ran out, or the tables of some of the jobs
+-- cannot be added; `Run` is always correct
 abbrev pub IsCountError : PlanView → List ℕ → CountError → Type 0
 IsCountError plan indices (Run error) = Unit {0}
 IsCountError plan indices (Sum error) = HaveNoTableWithStacks plan indices error
 
--- the run failed, memory ran out, or a function has two names
+-- the error says that the run failed, that memory ran out, or that a function has two names
 abbrev pub IsOfRunNamesOrMemory : CountError → Type 0
 IsOfRunNamesOrMemory (Run error) = Unit {0}
 IsOfRunNamesOrMemory (Sum error) = IsOfNamesOrMemory error

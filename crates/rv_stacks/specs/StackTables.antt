@@ -51,7 +51,8 @@ pub record AreNamesBy (name : ℕ → List ℕ) (nodes : List CallNode) (names :
   pub names_of_nodes : AreNamesOf nodes names
   pub each : (f : ℕ) → has_name (name_of f names) ≡ true → name_of f names ≡ Some (name f)
 
--- `names` has the names of the functions of `nodes`; all of these are below `next`, and `next` is one more than the last of them, or 0
+-- `names` has the names of the functions of `nodes`; all of these functions are below `next`, and `next` is one more than the last of them,
+-- or 0
 pub record AreNamedUpTo (name : ℕ → List ℕ) (nodes : List CallNode) (next : ℕ) (names : List FunctionName) : Type 0 where
   pub named : AreNamesBy name nodes names
   pub below : AllByRecursion (λ n. n.function < next) names
@@ -160,7 +161,8 @@ pub record IsTableWithStacks (plan : PlanView) (indices : List ℕ) (t : CountTa
   pub stacked : AreStacksOfJobsAt plan indices stacks
   pub sum : IsSumOfTables counts stacks t
 
--- the table of the jobs at the first `count` indices cannot be added to the table of the next job, because of this error
+-- for some number `count`, the table of the jobs at the first `count` indices cannot be added to the table of the next job, because of this
+-- error
 pub record IsNextTableNotAdded (plan : PlanView) (indices : List ℕ) (error : SumError) : Type 0 where
   pub count : ℕ
   pub within : count < length indices
@@ -170,7 +172,7 @@ pub record IsNextTableNotAdded (plan : PlanView) (indices : List ℕ) (error : S
   pub of_next : IsTableWithStacks plan (slice_index_or indices count 0 ∷ []) next
   pub refused : HaveNoSum error first next
 
--- why there is no table for the jobs at these indices: memory ran out, or the tables of some of them cannot be added
+-- the error says why there is no table for the jobs at these indices: memory ran out, or the tables of some of them cannot be added
 abbrev pub HaveNoTableWithStacks : PlanView → List ℕ → SumError → Type 0
 HaveNoTableWithStacks plan indices error = (error ≡ OutOfMemory) ⊎ IsNextTableNotAdded plan indices error
 
@@ -180,7 +182,7 @@ IsOfNamesOrMemory error = (error ≡ OutOfMemory) ⊎ ((function : ℕ) × (erro
 
 -- ---- parts and shards
 
--- `tables` has the table of each part of the indices, in order, with the counts and the call trees of the jobs in the part
+-- there is one table for each part of the indices, in order, with the counts and the call trees of the jobs in the part
 abbrev pub AreTablesWithStacksOfParts : PlanView → List (List ℕ) → List CountTable → Type 0
 AreTablesWithStacksOfParts plan [] [] = Unit {0}
 AreTablesWithStacksOfParts plan (p ∷ ps) (t ∷ ts) = IsTableWithStacks plan p t × AreTablesWithStacksOfParts plan ps ts

@@ -21,7 +21,8 @@ use Rattle.rv_count_tables.specs.Trees.{all_steps, calls_at, own_steps_of, steps
 abbrev pub last_address : ℕ
 last_address = 0xffff_ffff
 
--- the number that represents code without a symbol: 0, or the last address if there is a symbol at 0, which the argument says
+-- the number that represents code without a symbol: 0, or the last address if there is a symbol at 0; the argument is the symbol at 0, if
+-- there is one
 abbrev pub no_symbol_number : Option (List ℕ × ℕ) → ℕ
 no_symbol_number None = 0
 no_symbol_number (Some symbol) = last_address
@@ -35,7 +36,7 @@ start_of none address (Some symbol) = address - symbol.1
 unfoldable pub function_at : Image → List ℕ → ℕ → ℕ
 function_at image file address = start_of (no_symbol_number (symbol_at image file 0)) address (symbol_at image file address)
 
--- the call path of a pc: the functions in which the calls were made that have not returned, outermost first, and the function of the pc
+-- the call path of a pc: the function that made each call that has not returned, outermost first, and then the function of the pc
 abbrev pub path_at : (ℕ → ℕ) → List Frame → ℕ → List ℕ
 path_at function frames pc = map (λ f. function f.call) frames ++ function pc ∷ []
 
@@ -46,7 +47,7 @@ path_at function frames pc = map (λ f. function f.call) frames ++ function pc �
 abbrev pub address_after_pops : List Frame → Transfer → ℕ
 address_after_pops frames t = (slice_index_or frames (length (after_pop frames t)) (frame_of t)).call
 
--- the address whose function is last in the frames that remain after the pops: the call instruction if the transfer pushes a frame, and
+-- the address whose function ends the call path that remains after the pops: the call instruction if the transfer pushes a frame, and
 -- otherwise its target
 abbrev pub continues_at : List Frame → Transfer → ℕ
 continues_at frames t = if is_pushed (after_pop frames t) t then t.from else t.to
@@ -99,8 +100,8 @@ pub record AreStacksOf (function : ℕ → ℕ) (n : ℕ) (s : State) (nodes : L
   pub own : (f : ℕ) → own_steps_of f nodes ≡ executed_in_function function f n s
   pub all : all_steps nodes ≡ executed_steps n s
 
--- the result is the counts and the call tree of the run from this state within a budget of `n` steps, or `None` if there is an error
--- instead of the state because the job is refused
+-- the result is the counts and the call tree of the run from this state within a budget of `n` steps, or `None` if there is no state
+-- because the job is refused
 abbrev pub AreCountsAndStacksOfJob : (ℕ → ℕ) → ℕ → Result State Refusal → Option (List AddressCounts × List CallNode) → Type 0
 AreCountsAndStacksOfJob function n (Ok s) (Some both) = AreCountsOf n s both.0 × AreStacksOf function n s both.1
 AreCountsAndStacksOfJob function n (Ok s) None = ⊥

@@ -9,7 +9,7 @@ use Rattle.rv_stacks.specs.declared.node.WalkNode.{WalkNode}
 use Rattle.rv_stacks.specs.declared.walk.Walk.{Walk}
 use Rattle.rv_stacks.specs.Nodes.{all_calls, all_steps, calls_at, own_steps_of, path_of, steps_at, times_if}
 
--- `trail` has the number of the node of each prefix of the path, from the empty one to the whole path
+-- `trail` has the node number of each prefix of the path, from the empty prefix to the whole path
 pub record IsTrail (nodes : List WalkNode) (path trail : List ℕ) : Type 0 where
   pub long : length trail ≡ length path + 1
   pub within : (k d : ℕ) → k < length trail → slice_index_or trail k d < length nodes + 1
@@ -58,7 +58,7 @@ pub record ArePreorderOf (nodes : List WalkNode) (ss : List CallNode) : Type 0 w
   pub own : (f : ℕ) → preorder.own_steps_of f ss ≡ own_steps_of f nodes
   pub all_steps : preorder.all_steps ss ≡ all_steps nodes
 
--- the node `number` is a child of the node `parent` that has entries, and its function is not below `from`
+-- the node `number` is a child of the node `parent`; it has entries, and its function is not below `from`
 pub record IsNextChild (parent from number : ℕ) (nodes : List WalkNode) : Type 0 where
   pub after_parent : parent < number
   pub within : number < length nodes + 1
@@ -66,8 +66,8 @@ pub record IsNextChild (parent from number : ℕ) (nodes : List WalkNode) : Type
   pub rising : (k : ℕ) (d : WalkNode) → k + 1 ≡ number → from ≤ (slice_index_or nodes k d).function
   pub some : (k : ℕ) (d : WalkNode) → k + 1 ≡ number → 0 < (slice_index_or nodes k d).calls
 
--- the preorder nodes of `builder` form a tree, and its path is the path of the last of them or a prefix of that; in the second case, the
--- next function of that path is below `from`
+-- the preorder nodes of `builder` form a tree, whose last node has the path of the builder or a longer path that begins with it; in the
+-- longer path, the function after the path of the builder is below `from`
 pub record IsPreorderBuilder (nodes : List WalkNode) (builder : PreorderBuilder) : Type 0 where
   pub tree : IsTree builder.nodes.items
   pub some : HasCalls builder.nodes.items

@@ -117,8 +117,8 @@ impl Children {
         next
     }
 
-    // Returns the number of the next child of the node `parent` outside its chain, by function and not below `from`, if that child still
-    // has entries; else `None`.
+    // Returns the number of the child of the node `parent` outside its chain that has the lowest function not below `from`, if this child
+    // still has entries; else `None`.
     fn next_unchained_child(&self, nodes: &[WalkNode], parent: usize, from: u64) -> Option<usize>
         ensures { IfSome result (λ number. IsNextChild parent from number nodes.now) }
     {
@@ -147,7 +147,7 @@ fn is_child(nodes: &[WalkNode], parent: usize, function: u32, number: usize) -> 
     node.parent == parent && node.function == function
 }
 
-// Whether the node `number` is a child of the node `parent` that still has entries, and its function is not below `from`.
+// Whether the node `number` is a child of the node `parent`, still has entries, and has a function that is not below `from`.
 fn is_next_child(nodes: &[WalkNode], parent: usize, from: u64, number: usize) -> bool
     ensures { result ≡ true → IsNextChild parent from number nodes.now }
 {

@@ -58,7 +58,7 @@ pub(crate) fn look_up_function(
 }
 
 /// Returns how many instructions from the start of a block can be executed without leaving the function of the first one: these
-/// instructions and the next one belong to this function. 0 if there are none.
+/// instructions and the next one belong to this function. Returns 0 if there are none.
 pub(crate) fn steps_in_function(
     cache: &mut Vec<CachedFunction>,
     symbols: &CodeSymbols<'_>,

@@ -20,7 +20,7 @@ ghost use Rattle.rv_stacks.specs.StackTables.{indices_of_shard, without_stacks, 
 
 use rv_count_tables::trees_with_equal_counts_are_equal;
 
-/// Proves that a run has exactly one call tree.
+/// Proves that a run has only one call tree: any two call trees of the run are equal.
 pub fn run_has_one_call_tree()
     ensures { (function : ℕ → ℕ) (n : ℕ) (s : State) (a b : List CallNode) → AreStacksOf function n s a
         → AreStacksOf function n s b → a ≡ b }
@@ -52,7 +52,7 @@ pub fn tables_with_stacks_of_parts_sum_to_that_of_all()
 {}
 
 /// Proves that the tables of all shards, with call trees, add up in any order to the table of all indices, with the same text. A shard has
-/// the indices that leave one remainder when divided by the number of shards.
+/// the indices that leave the same remainder when divided by the number of shards.
 pub fn tables_with_stacks_of_shards_sum_to_that_of_all()
     ensures table { (plan : PlanView) (shards : ℕ) (indices numbers : List ℕ) (ts : List CountTable) (sum : CountTable)
         → 0 < shards → IsPermutation (range_with_len 0 shards) numbers

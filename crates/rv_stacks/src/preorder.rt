@@ -45,14 +45,14 @@ pub(crate) fn preorder_of_nodes(
     Err(AllocError)
 }
 
-// Whether all nodes have neither entries nor instructions.
+// Whether no node has calls or steps.
 fn are_empty(nodes: &[WalkNode]) -> bool
     ensures { result ≡ list_all is_empty nodes.now }
 {
     nodes.iter().all(is_empty)
 }
 
-// Whether a node has neither entries nor instructions.
+// Whether a node has no calls and no steps.
 fn is_empty(node: &WalkNode) -> bool
     ensures { result ≡ is_empty node.now }
 {

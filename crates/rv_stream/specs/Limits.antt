@@ -11,17 +11,17 @@ rows_until fails zero rows = []
 rows_until fails (suc remaining) [] = []
 rows_until fails (suc remaining) (row ∷ rows) = row ∷ rows_until fails (if fails row then remaining else suc remaining) rows
 
--- the number of further failures after which the run stops, if it stops after `n` failures in all and these rows have passed
+-- the number of further failures after which the run stops, if it stops after the given number of failures in all and has these rows so far
 abbrev pub failures_left_after : (Row → Bool) → ℕ → List Row → ℕ
 failures_left_after fails zero rows = zero
 failures_left_after fails (suc remaining) [] = suc remaining
 failures_left_after fails (suc remaining) (row ∷ rows) = failures_left_after fails (if fails row then remaining else suc remaining) rows
 
--- the rows up to and including the failure after which the run stops; all rows without a limit
+-- the rows up to and including the failure after which the run stops; all rows if there is no limit or there are fewer failures
 abbrev pub rows_up_to : Option ℕ → (Row → Bool) → List Row → List Row
 rows_up_to None fails rows = rows
 rows_up_to (Some max_failures) fails rows = rows_until fails max_failures rows
 
--- the rows of a run with these options; the argument is the rows that a run to the end would have
+-- the rows that a run with these options has, if a run to the end has the given rows
 abbrev pub rows_within : StreamOptions → List Row → List Row
 rows_within options rows = rows_up_to options.max_failures (fails (judge_view options.judge)) rows

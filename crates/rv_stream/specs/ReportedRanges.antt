@@ -10,7 +10,7 @@ use Rattle.rv_stream.specs.declared.reported_range.ReportedRange.{ReportedRange}
 use Rattle.rv_stream.specs.declared.reported_row.ReportedRow.{ReportedRow}
 use Rattle.rv_stream.specs.ReportedRows.{IsReportedRow}
 
--- `reported` has one row for each job in a range of the batch, in order, with the text that `row_text` returns
+-- `reported` has one row for each job in a range of the batch, in order, each with the text that `row_text` returns for it
 pub record AreReportedRows (row_text : ℕ → Row → List ℕ) (batch : Batch) (range : IndexRange) (reported : List ReportedRow) : Type 0 where
   pub count : length reported ≡ range.end - range.begin
   pub each : (k : ℕ) (default : ReportedRow) → k < length reported
@@ -25,8 +25,8 @@ pub record IsReportedRange (row_text : ℕ → Row → List ℕ) (batch : Batch)
 abbrev pub rows_of_ranges : List ReportedRange → List ReportedRow
 rows_of_ranges ranges = flat_map (λ (r : ReportedRange). r.rows.items) ranges
 
--- a listener that had received the rows `before` has then received `rows`, in order; if it has stopped the run, it may have received only
--- the first of them
+-- after the rows `before`, a listener has received `rows`, in order; if it has stopped the run, it may have received only a prefix of
+-- `rows`
 pub record HasReceivedMore (has_received : List ReportedRow → Type 0) (stops : Type 0) (before rows : List ReportedRow) : Type 0 where
   pub first : List ReportedRow
   pub rest : List ReportedRow

@@ -21,12 +21,12 @@ rows_of_reported told = map (λ (t : ReportedRow). t.row) told
 abbrev pub texts_of_reported : List ReportedRow → List (List ℕ)
 texts_of_reported told = map (λ (t : ReportedRow). t.text.items) told
 
--- the number of further failures after which the run stops, when these rows have passed; `None` without a limit
+-- the number of further failures after which the run stops, if it has these rows so far; `None` without a limit
 abbrev pub failures_left_after_row : Option ℕ → JudgeView → List Row → Option ℕ
 failures_left_after_row max_failures judging rows = option_map (λ number. failures_left_after (fails judging) number rows) max_failures
 
--- no row comes after the failure that stops the run; `left` is the number of further failures after which it stops; and `collected` is
--- these rows, unless `refused` says that an allocation failed
+-- none of the `rows` comes after the failure that stops the run; `left` is the number of further failures after which the run stops;
+-- `collected` is `rows`, unless `refused` says that an allocation failed
 pub record AreRowsUpToFailure (max_failures : Option ℕ) (judging : JudgeView) (left : Option ℕ) (refused : Bool) (collected rows : List Row) : Type 0 where
   pub collected_all : refused ≡ false → collected ≡ rows
   pub failures_left : left ≡ failures_left_after_row max_failures judging rows

@@ -9,7 +9,7 @@ use Rattle.rv_counting.specs.declared_sum.SumError.{SumError}
 use Rattle.rv_counting.specs.declared_table.CountTable.{CountTable}
 use Rattle.rv_stream.specs.declared.stream_options.StreamOptions.{StreamOptions}
 
--- the outcome of a run whose tables were added: if they could not be added, the run is out of memory
+-- the outcome of a run whose tables were added; `OutOfMemory` if the run succeeded, but its tables could not be added
 abbrev pub outcome_with_sum : Option SumError → Result Flow RunError → Result Flow RunError
 outcome_with_sum (Some error) (Ok flow) = Err OutOfMemory
 outcome_with_sum failed ran = ran

@@ -13,8 +13,8 @@ pub record IsWriteInProgress (before now : Option (List ℕ)) (failures_before f
   pub appended : Appends before now sent
   pub counted : failures ≡ failures_before
 
--- without an error, the text was written except for its end `buffered`; after an error, a prefix of it was written; a failed write is
--- counted
+-- without an error, the text was written except for its end `buffered`; after an error, a prefix of it was written; `failures` is one more
+-- than `failures_before` if the error is a failed write, and otherwise the two are equal
 abbrev pub IsSent : Option (List ℕ) → Option (List ℕ) → ℕ → ℕ → Option WriteError → List ℕ → List ℕ → Type 0
 IsSent before now failures_before failures None buffered text = IsWriteInProgress before now failures_before failures buffered text
 IsSent before now failures_before failures (Some OutOfMemory) buffered text =

@@ -30,8 +30,8 @@ use std::marker::Brand;
 use std::sync::Wait;
 use std::thread::Threads;
 
-/// Like [`crate::stream_rows`], for a run without a limit on failures whose executed instructions are counted: consecutive jobs of one
-/// image are run together, whatever the crew's chunk length, and their tables are added.
+/// Like [`crate::stream_rows`], for a run that has no limit on failures, and whose executed instructions are counted: consecutive jobs of
+/// one image are run together, whatever the crew's chunk length, and their tables are added.
 pub(crate) fn stream_counted_rows<
     J: StreamSpec + Send,
     R: Threads + Wait + Sync,
@@ -108,8 +108,8 @@ pub(crate) fn stream_counted_rows<
     }
 }
 
-// Returns the outcome of a run whose tables were added. If they could not be added, the run is out of memory: the tables of so few jobs
-// always have a sum.
+// Returns the outcome of a run whose tables were added. If the run succeeded, but its tables could not be added, returns `OutOfMemory`: a
+// batch has too few jobs for a count to overflow.
 fn outcome_with_sum(sum: &TableSum, ran: Result<Flow, RunError>) -> Result<Flow, RunError>
     ensures { result ≡ outcome_with_sum sum.now.failed ran }
 {

@@ -1,10 +1,10 @@
 //! Streams: the texts of rows, which are written in list order while later rows are still being computed.
 //!
 //! [`stream_rows`] runs a [`Batch`](rv_counting::Batch) with a [`Crew`](rv_counting::Crew). A caller's [`RowReporter`] makes the text of
-//! each row, which is written as soon as those of all earlier rows are. With `Ok` the sink has received the texts of all rows, in order,
-//! whatever the number of workers and of jobs in a chunk; after an error it has received a prefix of them. [`StreamOptions`] can limit the
-//! number of failures after which the run ends. An observer sees each row with its text: a [`RowSender`], for example, writes the text of
-//! another reporter to another sink.
+//! each row, which is written as soon as the texts of all earlier rows have been written. If the result is `Ok`, the sink has received the
+//! texts of all rows, in order, whatever the number of workers and of jobs in a chunk; after an error it has received a prefix of them.
+//! [`StreamOptions`] can limit the number of failures after which the run ends. An observer sees each row with its text: a [`RowSender`],
+//! for example, writes the text of another reporter to another sink.
 #![tactic(auto)]
 
 mod counted_stream;

@@ -81,7 +81,8 @@ fn push_row(rows: &mut Vec<Row>, row: Row) -> bool
     rows.push(row).is_err()
 }
 
-// Returns `failures_left` after one more row: one less if the row failed. `None` without a limit.
+// Returns the number of further failures after which the run stops, after one more row: one less, but at least 0, if the row failed. `None`
+// without a limit.
 fn failures_left_after_row(left: Option<u32>, failed: bool) -> Option<u32>
     ensures { result ≡ (if failed then option_map (λ n. n - 1) left else left) }
 {

@@ -82,7 +82,7 @@ abbrev pub step_then : Result State Ending → State → (State → List TracedS
 step_then (Ok t) s later_steps = traced_step s t ∷ later_steps t
 step_then (Err e) s later_steps = []
 
--- the first `n` instructions executed from the state `s`, as a trace shows them, up to the first that does not complete
+-- the first `n` instructions executed from the state `s`, as a trace shows them, up to but not including the first that does not complete
 unfoldable pub steps_from : ℕ → State → List TracedStep
 steps_from zero s = []
 steps_from (suc n) s = step_then (step_of s) s (λ t. steps_from n t)

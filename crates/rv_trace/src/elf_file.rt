@@ -26,7 +26,7 @@ impl<'a> ElfFile<'a> {
         rv_rows::symbol_at(self.image, self.bytes, address)
     }
 
-    /// Returns the symbol whose address is `value`, or to which `value` points; `None` if there is none.
+    /// Returns the symbol whose address is `value`, or whose bytes include the address `value`; `None` if there is none.
     pub(crate) fn symbol_of_value(&self, value: u32) -> Option<SymbolAt<'a>>
         ensures { option_map (λ s. (s.name.now, s.offset)) result
             ≡ symbol_of_value self.now.image.now self.now.bytes.now value }

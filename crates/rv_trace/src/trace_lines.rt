@@ -19,8 +19,8 @@ use rv_text::{Span, push_spans, push_symbol, push_symbol_in_brackets, push_text}
 use std::alloc::{AllocError, Global};
 
 /// Appends the text of a trace: the address where the run ended, the 32 registers with the symbols that they point to, a line for each
-/// completed instruction, and a line for the instruction at the end that says how the run ended. Symbols are looked up in the job's file;
-/// `end` is how the row says that the run ended.
+/// completed instruction, and a line for the instruction at the end that says how the run ended. Symbols are looked up in the job's file.
+/// `end` is how the run ended, according to its row.
 #[tactic(auto, unfolding(crate::specs::Text::trace_text))]
 pub fn push_trace(
     alloc: Global,
