@@ -87,8 +87,8 @@ abbrev pub reference_explanation_of : Members → Option (List ℕ) × List ℕ
 reference_explanation_of ms = reference_explanation (is_some (get_member (codes "signature") ms))
     (text_at_key (codes "expect_signature") ms) (console_explanation_of ms)
 
--- `explanation`, the key whose value is shown and the words, explains the first bad expectation of the job: `expect_exit`, if the job has
--- this key, or another expectation
+-- `explanation`, the key whose value is shown and the words, explains either a bad `expect_exit`, if the job has this key, or the first bad
+-- one of the job's other expectations
 abbrev pub IsExpectationExplanation : Members → Option (List ℕ) × List ℕ → Type 0
 IsExpectationExplanation ms explanation =
     ((is_some (get_member (codes "expect_exit") ms) ≡ true) × (explanation ≡ exit_explanation (number_at_key (codes "expect_exit") ms)))
@@ -96,7 +96,8 @@ IsExpectationExplanation ms explanation =
 
 -- ---- instruction sets
 
--- the explanation of an unknown instruction set: which part of it is not simulated, if it is a common one, and the known sets
+-- the explanation of an unknown instruction set: it lists the known sets; if the set is RV64, or if A, F or D is its first extension that is
+-- not simulated, it says this first
 abbrev pub unknown_isa_text : List ℕ → List ℕ
 unknown_isa_text isa =
     if starts_with nat_eq isa (codes "rv64") then codes "RV64 is not simulated: " ++ known_isas_text

@@ -312,7 +312,7 @@ element_at no_items index = None
 element_at (item d ds) zero = Some d
 element_at (item d ds) (suc index) = element_at ds index
 
--- `message` explains this error of a list, if it is an error of a job, by the values of that job
+-- if this error of a list is an error of a job, `message` explains it by the values of that job
 abbrev pub ExplainsFaultOfList : listed.List → JobError → List ℕ → Type 0
 ExplainsFaultOfList list fault message = 0 < fault.job → ExplainsJobFault
     (borrowed_names list.names.items) (element_at (items_view list.jobs.now) (fault.job - 1)) fault.what message

@@ -34,22 +34,22 @@ pub(crate) struct Expected {
     bytes: Bytes,
 }
 
-/// The text that is inserted into what is expected.
+/// The text between the texts `before` and `behind` of an [`Expected`].
 #[derive(Clone, Copy)]
 enum InsertedText {
     Nothing,
-    /// The maximum.
+    /// The maximum of the number or of the length.
     Maximum(u64),
     /// The names of all kinds of faults.
     FaultKinds,
 }
 
-/// Whether and how the number of a text's bytes is shown if it exceeds the maximum.
+/// Whether and how the number of a text's bytes is shown if it exceeds the maximum: never, for a text of bytes, or for pairs of digits.
 #[derive(Clone, Copy)]
 enum Bytes {
     Untold,
     Each,
-    /// Two characters are the digits of a byte.
+    /// Two characters of the text represent one byte.
     Pairs,
 }
 

@@ -27,7 +27,7 @@ use crate::values::text_at_key;
 use rv_lists::What;
 use toml::{Table, Value};
 
-/// Appends the explanation of an error of the job at an index. The nearest job name is suggested if requested.
+/// Appends the explanation of an error of the job at an index, counted from 0. `suggestion` says whether the nearest job name is suggested.
 pub(crate) fn push_job_fault(
     message: &mut Message,
     list: &List<'_>,
@@ -110,7 +110,7 @@ fn push_fault_within_job(message: &mut Message, table: &Table, kind: What)
     }
 }
 
-// Returns the explanation of an error of a single value.
+// Returns the explanation of a bad value with this error; if the error is not about a bad value, the explanation is only its name.
 fn key_explanation(table: &Table, kind: What) -> Explanation
     ensures words { IfSome (expected_of_error kind) (λ words. explained_text result ≡ words) }
     ensures key { IfSome (key_of kind) (λ key. explained_key result ≡ Some key) }
@@ -203,7 +203,7 @@ fn script_explanation(text: Option<&str>, digits: Option<&str>) -> Explanation
     }
 }
 
-// Returns the explanation of a bad `input_hex`: that it is too long, if it consists of digit pairs, or else that digit pairs are expected.
+// Returns the explanation of a bad `input_hex`: if it consists of pairs of hexadecimal digits, it is too long; otherwise, pairs are expected.
 fn digits_explanation(digits: &str) -> Explanation
     ensures { (explained_key result, explained_text result) ≡ script_explanation None (Some digits.now) }
 {

@@ -39,7 +39,8 @@ fn push_reason(message: &mut Message, reason: &str)
     message.push(reason);
 }
 
-/// Returns the duplicate key of a text if that is why it is not TOML, or else `None`.
+/// Returns the duplicate key of a text if this is why the text is not TOML. Returns `None` if there is another reason, or if the key is not
+/// found.
 pub(crate) fn repeated_key_of_error<'a>(
     alloc: Global,
     text: &'a [u8],
@@ -53,7 +54,7 @@ pub(crate) fn repeated_key_of_error<'a>(
     }
 }
 
-/// Appends the duplicate key of a text, with the line of its first occurrence if that was found.
+/// Appends the duplicate key of a text, and the line of its first occurrence, if this is known.
 pub(crate) fn push_repeated_key(message: &mut Message, text: &[u8], repeated: &RepeatedKey<'_>) {
     message.push(" \"");
     for part in &repeated.key.path {

@@ -18,7 +18,7 @@ use crate::values::{elements_at_key, push_expected_value, value_at_key};
 use rv_lists::{JOB_KEYS, ValueType};
 use toml::{Table, Value};
 
-/// Appends the first key of a job, in the order of the format, whose value has the wrong type, and the expected type.
+/// Appends the first key, in the order of `JOB_KEYS`, whose value in the job has the wrong type, with its value and the expected type.
 pub(crate) fn push_wrong_type(message: &mut Message, table: &Table)
     ensures { AppendsTextThat message.old message.new (ExplainsFirstWrongType (table_view table.now)) }
 {

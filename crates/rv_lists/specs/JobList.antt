@@ -205,7 +205,7 @@ unfoldable pub console_from_table : Members → Result (Option ExpectedConsole) 
 console_from_table ms =
     console_from_either (text_at_key (codes "expect_console") ms) (text_at_key (codes "expect_console_file") ms)
 
--- the expected end by a fault of this kind, or an error if there is no such kind
+-- the expected end by a fault of this kind, or an error if no kind is given
 abbrev pub end_from_fault_kind : Option FaultKind → Result (Option ExpectedEnd) What
 end_from_fault_kind None = Err what.Expect
 end_from_fault_kind (Some kind) = Ok (Some (expected.Fault kind))
@@ -246,7 +246,7 @@ isa_from_text t = if bytes_eq t (codes "rv32i") then Ok isa.I
     else if bytes_eq t (codes "rv32imc") then Ok isa.Imc
     else Err what.Isa
 
--- the instruction set of a job; by default RV32IMC
+-- the instruction set of a job, or an error if its name is unknown; by default RV32IMC
 unfoldable pub isa_from_table : Members → Result Isa What
 isa_from_table ms = parsed_or_default isa_from_text isa.Imc (text_at_key (codes "isa") ms)
 
@@ -256,7 +256,7 @@ misaligned_from_text t = if bytes_eq t (codes "fault") then Ok Fault
     else if bytes_eq t (codes "allow") then Ok Allow
     else Err what.Misaligned
 
--- what misaligned accesses do in a job's run: they are faults, unless `misaligned` allows them
+-- what misaligned accesses do in a job's run, or an error if `misaligned` is invalid; they are faults, unless `misaligned` allows them
 unfoldable pub misaligned_from_table : Members → Result MisalignedPolicy What
 misaligned_from_table ms = parsed_or_default misaligned_from_text Fault (text_at_key (codes "misaligned") ms)
 
@@ -344,7 +344,7 @@ unfoldable pub jobs_of_document : Option Members → Result (List Job) JobError
 jobs_of_document None = Err (record { job = 0; what = what.NotToml })
 jobs_of_document (Some ms) = with_job_number 0 (job_elements ms) >>= jobs_of_elements 1 []
 
--- the TOML document that a text is, or `None` if it is not UTF-8 or not TOML
+-- the TOML document with this text, or `None` if the text is not UTF-8 or not TOML
 abbrev pub document_of : List ℕ → Option Members
 document_of bytes = if is_utf8 bytes then parse_document bytes else None
 

@@ -11,8 +11,8 @@ use Rattle.rv_lists.specs.JobList.{reference_from_table, console_from_table}
 use Rattle.rv_lists.specs.JobList.{end_from_table, same_as_from_table, isa_from_table, misaligned_from_table}
 use Rattle.rv_lists.specs.Parsing.{◌>>=◌}
 
--- the expected end, the job of `same_as`, the instruction set, and the treatment of misaligned accesses of a job, or the first error;
--- `earlier` are the names of the earlier jobs
+-- what the last four keys of a job say: its expected end, the index of its `same_as` job, its instruction set, and what misaligned accesses
+-- do; or the first error. `earlier` are the names of the earlier jobs
 unfoldable pub run_options_from_table : List (List ℕ) → Members → Result RunOptions What
 run_options_from_table earlier ms = do
   expect_end ← end_from_table ms

@@ -18,7 +18,7 @@ pub enum What {
     TooMany,
     /// A key that the format does not have: next to `job`, in a job or in a region.
     UnknownKey,
-    /// A value has another TOML kind than its key requires, including in a region or a signature; or an element of `job` is not a table.
+    /// A value has another TOML type than its key requires, including in a region or a signature; or an element of `job` is not a table.
     WrongType,
     /// `name` is missing, or is not 1 to 64 of the ASCII letters, digits, `.`, `_` and `-`.
     Name,

@@ -23,8 +23,8 @@ pub(crate) struct RunOptions {
     pub(crate) misaligned: Misaligned,
 }
 
-/// Returns the expected end, the job of `same_as`, the instruction set, and the treatment of misaligned accesses of a job, or the first
-/// error. `earlier` are the jobs before it.
+/// Returns what the last four keys of a job say: its expected end, the index of its `same_as` job, its instruction set, and what misaligned
+/// accesses do; or the first error. `earlier` are the jobs before it.
 #[tactic(auto, unfolding(crate::specs::JobSteps::run_options_from_table))]
 pub(crate) fn run_options_from_table(
     earlier: &EarlierJobs,
