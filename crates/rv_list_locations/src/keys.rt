@@ -13,7 +13,7 @@ use std::alloc::{AllocError, Global};
 use toml_parser::text::{byte_at, first, skip, skip_ws};
 use toml_parser::{Key, ParseError, dotted_key};
 
-/// A key of a job: its name, and the text from the key, or from the header of its table, on.
+/// A key of a job: its name, and the list's text from the key on, or from the header of its table on.
 #[derive(Drop)]
 pub struct JobKey<'a> {
     pub name: String,
@@ -87,7 +87,7 @@ fn skip_job_start(alloc: Global, job: &str) -> Result<(KeyContext, &str), ParseE
     Ok((KeyContext::Table, step.rest))
 }
 
-/// Scans an entry or a header in the text of a job. Returns its name, if it has one, and the text after it.
+/// Scans an entry or a header in the text of a job. Returns the name of its key, if it has one, what comes next, and the text after it.
 pub(crate) fn scan_key_step(
     alloc: Global,
     text: &str,
@@ -150,8 +150,8 @@ fn scan_name(alloc: Global, text: &str) -> Result<(String, &str), ParseError>
     Ok((name, after_key))
 }
 
-// Scans a header after the beginning of a job. The header of another job or table ends the job; the header of a table in the job has the
-// part after `job` as its name.
+// Scans a header after the beginning of a job. The header of the next job ends the job: the returned text is empty. The header of a table in
+// the job has the part after `job` as its name, and any other header has no name.
 fn scan_inner_header(alloc: Global, text: &str) -> Result<KeyStep<'_>, ParseError>
     requires { slice_index text.now 0 ≡ left_bracket }
     ensures name { IfOk result (λ step. IfSome step.name (λ name. BeginsWithName (string_bytes name) text.now)) }

@@ -78,7 +78,7 @@ has_expected_console (Some (File path)) (Some bytes) outcome = ran_with_console 
 
 -- ---- the reference signature
 
--- a line for each word of a signature; empty if there is no signature
+-- the lines of a signature, one for each word; empty if there is no signature
 abbrev pub lines_of_signature : Option (List ℕ) → List ℕ
 lines_of_signature None = []
 lines_of_signature (Some words) = flat_map word_line words

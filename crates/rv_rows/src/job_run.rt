@@ -102,7 +102,7 @@ pub(crate) fn machine_of_image(
     }
 }
 
-// Returns a refusal if the job names a file with expected results that was not read.
+// Returns a refusal if a file with expected results was not read. `file` is `None` if the job names no such file.
 fn check_file_was_read(file: Option<&Kept>) -> Result<(), Refusal>
     ensures { MatchResult result
         (λ _. IsOk (reference_or_refusal (option_map (λ kept. kept.now) file.entry)))

@@ -63,7 +63,7 @@ pub fn row_at_with_recent(
     row_with_verdict(alloc, plan, i, outcome, is_same)
 }
 
-/// Returns the row of the job at an index with this outcome. `is_same` says whether the outcome equals the outcome of the job that
+/// Returns the row of the job at an index, given its outcome. `is_same` says whether the outcome equals the outcome of the job that
 /// `same_as` names.
 #[tactic(auto, unfolding(crate::specs::Rows::row_of))]
 pub(crate) fn row_with_verdict(

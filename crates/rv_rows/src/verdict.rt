@@ -153,7 +153,7 @@ pub fn did_run(ending: RowEnd) -> bool
     !matches!(ending, RowEnd::Refused(_))
 }
 
-// Whether these bytes are a line for each word of the signature; without a signature, whether there are no bytes.
+// Whether these bytes are the lines of the signature, one for each word; without a signature, whether there are no bytes.
 fn are_signature_lines(bytes: &[u8], signature: &Option<Words>) -> bool
     ensures { result ≡ bytes_eq bytes.now (lines_of_signature signature.now) }
 {
