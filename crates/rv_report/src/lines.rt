@@ -1,4 +1,4 @@
-//! The values of single lines of a report. Any line has some value: the byte that distinguishes a line from others decides how it is read.
+//! The values of single lines of a report. Any line has a value: the first byte in which valid lines differ decides how it is read.
 
 ghost use Rattle.std.specs.Prelude.{◌≡◌, IfOk, string_bytes};
 ghost use Rattle.rv_report.specs.LenientReport.{job_number_of_line, job_name_of_line, fault_or_default, refusal_or_default, fault_ending_of_text, row_ending_of_line};
