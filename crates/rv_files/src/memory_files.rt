@@ -107,8 +107,8 @@ impl MemoryOutputs {
         MemoryOutputs::with_steps(alloc, u64::MAX)
     }
 
-    /// Returns outputs without files that allow `steps` steps and reject all later ones. Creating, syncing and placing a file are one step
-    /// each. Does not allocate.
+    /// Returns outputs without files. They allow `steps` steps and reject all later ones. Creating, syncing and placing a file are one step each.
+    /// Does not allocate.
     pub fn with_steps(alloc: Global, steps: u64) -> MemoryOutputs
         ensures nothing_committed { result.committed.items ≡ [] }
         ensures steps { result.steps_left ≡ steps }

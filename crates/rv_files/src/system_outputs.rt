@@ -103,7 +103,7 @@ where
     fn check_not_same_file(&self, alloc: Global, paths: &FilePaths) -> Result<(), FileError>
         ensures not_the_first { IfErr result (λ error. error ≡ FileError.SameFile → 0 < vec_len self.now.uncommitted) }
     {
-        // If the other file's final path is this one's temporary path, this is the other's temporary path.
+        // If the other file's final path is this file's temporary path, then `newer` is the other file's temporary path.
         let newer = with_new_suffix(alloc, paths.temporary.as_str())?;
         for other in &self.uncommitted {
             for path in [&paths.temporary, &paths.destination, &newer] {
@@ -206,7 +206,7 @@ where
         }
     }
 
-    // Creates a file for a path: a locked temporary file, or, if something other than a regular file is at the path, opens that.
+    // Creates a locked temporary file for a path; if something other than a regular file is at the path, opens that instead.
     fn create(
         &mut self,
         alloc: Global,

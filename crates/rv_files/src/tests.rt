@@ -16,7 +16,7 @@ use std::process::Abort;
 use std::rt::Files;
 use std::test::Fail;
 
-// Writes a file. The contract shows that the clauses of outputs suffice to determine what is written.
+// Writes a file. The contract shows that the clauses of `Outputs` suffice to determine what is written.
 fn write_file<F: Outputs>(
     outputs: &mut F,
     alloc: Global,

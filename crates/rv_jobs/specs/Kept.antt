@@ -16,7 +16,7 @@ is_unreadable _ = false
 abbrev pub faults_after_read : Kept → ℕ → ℕ
 faults_after_read kept n = if is_unreadable kept then one_more n else n
 
--- the result of reading a path agrees with the contents of the files, if these are known
+-- the result of reading a path agrees with the contents of the files, if these are known; `Unreadable` agrees with any contents
 abbrev pub AgreesWithContents : Option FileContents → List ℕ → Kept → Type 0
 AgreesWithContents contents path (Content bytes) =
     (length bytes ≤ max_file_size) × IfSome contents (λ files. files path ≡ Some bytes)
