@@ -10,7 +10,7 @@ use crate::symbol_search::{SymbolAt, are_in_one_segment, names_end, text_before_
 use crate::symbols::{SYMBOL_SIZE, Symbol, bytes_from, symbol_and_string_bytes, symbol_at_offset};
 use std::alloc::{AllocError, Global};
 
-// What a lookup by address needs of a symbol that may name code.
+// The data that a lookup by address needs about a symbol that may name code.
 #[derive(Clone, Copy)]
 struct CodeSymbol {
     // Greater for symbols that [`symbol_at`](crate::symbol_at) prefers.

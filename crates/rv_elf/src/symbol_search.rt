@@ -69,8 +69,8 @@ pub fn symbol_of_value<'a>(image: &Image, file: &'a [u8], value: u32) -> Option<
     nearest_symbol(image, file, value, LookupKind::Value)
 }
 
-// Returns the preferred symbol in the first symbol table that may name an address, or `None` if there is none. `kind` says whether the
-// address is looked up as code or as a value.
+// Returns the preferred one of the symbols in the file's first symbol table that may name an address, or `None` if there is none. `kind` says
+// whether the address is looked up as code or as a value.
 fn nearest_symbol<'a>(
     image: &Image,
     file: &'a [u8],
@@ -91,8 +91,8 @@ fn nearest_symbol<'a>(
     })
 }
 
-// Returns the preferred symbol of a table that may name an address, or `None` if there is none. A symbol that is not preferred to the best
-// so far is not checked any further.
+// Returns the preferred one of a table's symbols that may name an address, or `None` if there is none. A symbol that is not preferred to the
+// best one so far is not checked any further.
 fn nearest_candidate(
     table: &[u8],
     strings: &[u8],
