@@ -77,7 +77,7 @@ fn search_regions(regions: &[Region], start: usize, addr: u32, len: u32) -> Opti
 
 impl Region {
     // Returns the offset of an address in the region; `None` if the region does not have all of the `len` bytes at the address. An address
-    // below the base wraps to an offset after every region's end.
+    // below the base wraps to an offset past the region's end.
     #[inline]
     fn offset_of(&self, addr: u32, len: u32) -> Option<u32>
         requires positive { 0 < len }
