@@ -117,7 +117,7 @@ kind_text index =
     (if index == 0 then [] else if index + 1 == length fault_kinds then codes " or " else codes ", ")
     ++ quoted (fault_name (slice_index_or fault_kinds index fault.FetchAccess))
 
--- the names of the first kinds of faults, as many as the argument says, in quotes, as a sentence lists them
+-- the names in quotes of the first kinds of faults, as many as the argument says, each after its separator
 unfoldable pub first_fault_kinds_text : ℕ → List ℕ
 first_fault_kinds_text zero = []
 first_fault_kinds_text (suc count) = first_fault_kinds_text count ++ kind_text count

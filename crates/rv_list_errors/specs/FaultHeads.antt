@@ -40,7 +40,7 @@ abbrev pub line_text : Option ℕ → List ℕ
 line_text None = []
 line_text (Some number) = codes ":" ++ decimal number
 
--- the name of a job after a space and in quotes, or nothing if it has none
+-- a space and the name of a job in quotes, or nothing if it has no name
 abbrev pub name_text : Option (List ℕ) → List ℕ
 name_text None = []
 name_text (Some name) = codes " \"" ++ (printable_value name ++ codes "\"")

@@ -18,7 +18,7 @@ use crate::values::{number_at_key, text_at_key, value_at_key, word_at_key};
 use rv_lists::limits::{MAX_CONSOLE_LEN, MAX_PATH_LEN};
 use toml::Table;
 
-/// Returns the explanation of a job's first bad expectation.
+/// Returns the explanation of a job's first bad expectation: of `expect_exit`, or else of `expect_signature`, or else of the others.
 pub(crate) fn expectation_explanation(table: &Table) -> Explanation
     ensures { IsExpectationExplanation (table_view table.now) (explained_key result, explained_text result) }
 {

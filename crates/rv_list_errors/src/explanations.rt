@@ -38,7 +38,7 @@ pub(crate) struct Expected {
 #[derive(Clone, Copy)]
 enum InsertedText {
     Nothing,
-    /// The maximum of the number or of the length.
+    /// The maximum of the value or of its length.
     Maximum(u64),
     /// The names of all kinds of faults.
     FaultKinds,
@@ -245,7 +245,7 @@ fn push_expected(message: &mut Message, table: &Table, expected: &Expected)
     push_expected_text(message, reported_byte_count(table, expected), expected);
 }
 
-// Appends the number of bytes in parentheses, if it exceeds the maximum, and then the text that says what is expected of the value.
+// Appends ` (BYTES bytes)` if `bytes` exceeds the maximum in `expected`, and then the text that says what is expected of the value.
 fn push_expected_text(message: &mut Message, bytes: u64, expected: &Expected)
     ensures { Adds message.old message.new (bytes_text expected.now.rest bytes ++ (codes ": " ++ expected_text expected.now)) }
 {
@@ -256,7 +256,7 @@ fn push_expected_text(message: &mut Message, bytes: u64, expected: &Expected)
     message.push(expected.behind);
 }
 
-// Appends the number of bytes in parentheses, if it exceeds the maximum, or else nothing.
+// Appends ` (BYTES bytes)` if `inserted` is a maximum and `bytes` exceeds it, and otherwise nothing.
 fn push_byte_count(message: &mut Message, bytes: u64, inserted: InsertedText)
     ensures { Adds message.old message.new (bytes_text inserted bytes) }
 {
@@ -268,7 +268,7 @@ fn push_byte_count(message: &mut Message, bytes: u64, inserted: InsertedText)
     }
 }
 
-// Appends the text that completes what is expected of a value: nothing, a maximum, or the names of all kinds of faults.
+// Appends the inserted text of an explanation: nothing, a maximum, or the names of all kinds of faults.
 fn push_inserted_text(message: &mut Message, inserted: InsertedText)
     ensures { Adds message.old message.new (inserted_text inserted) }
 {
@@ -279,7 +279,7 @@ fn push_inserted_text(message: &mut Message, inserted: InsertedText)
     }
 }
 
-// Appends the names of all kinds of faults in quotes, as a sentence lists them.
+// Appends the names of all kinds of faults in quotes, separated by `, ` and, before the last one, by ` or `.
 fn push_fault_kinds(message: &mut Message)
     ensures { Adds message.old message.new (first_fault_kinds_text (length fault_kinds)) }
 {

@@ -88,7 +88,7 @@ fn push_fault_of_table(message: &mut Message, job: FaultyJob<'_>, kind: What)
     }
 }
 
-/// Appends that an earlier job has the name of the job.
+/// Appends the explanation of a job's `name` that an earlier job already has.
 pub(crate) fn push_duplicate_name(message: &mut Message, list: &List<'_>, table: &Table)
     ensures { AppendsTextThat message.old message.new
         (ExplainsName (borrowed_names list.now.names.items) (codes "name") unique_name_text (table_view table.now)) }

@@ -1,4 +1,4 @@
-//! The errors of single keys of a job, whatever its other keys are.
+//! The errors of a job's keys, one key at a time.
 
 ghost use Rattle.std.specs.Prelude.{◌<◌, IfSome};
 
@@ -180,7 +180,7 @@ impl<'a> FaultyJob<'a> {
         }
     }
 
-    // Whether a name is valid, and an earlier job has it.
+    // Whether a text is a valid name that an earlier job has.
     fn is_earlier_job(&self, name: &str) -> bool {
         match self.list.job_number_of_name(Some(name)) {
             Some(number) => number <= self.job_index as u64 && is_name(name.as_bytes()),

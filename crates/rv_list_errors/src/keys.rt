@@ -25,7 +25,7 @@ pub(crate) enum Owner {
     Region,
 }
 
-/// Returns the first key of a table that is not valid in it, or `None` if all keys are valid. `owner` says whether the table is the whole
+/// Returns the first key of a table that is not valid there, or `None` if all keys are valid. `owner` says whether the table is the whole
 /// list, a job or a region.
 pub(crate) fn unknown_key(table: &Table, owner: Owner) -> Option<&str>
     ensures { option_map (λ key. key.now) result
@@ -115,7 +115,7 @@ pub(crate) fn push_unknown_key_of_job(message: &mut Message, key: &str, suggesti
     }
 }
 
-// Appends the key of jobs that is nearest to a text, or all keys if none is near.
+// Appends the known key of jobs that is nearest to a text, or all known keys if none is near.
 fn push_nearest_key(message: &mut Message, text: &str)
     ensures { AppendsTextThat message.old message.new (BeginsWith []) }
 {

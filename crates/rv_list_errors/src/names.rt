@@ -120,8 +120,8 @@ fn push_nearest_name(message: &mut Message, names: &[Option<&str>], text: &str)
     }
 }
 
-/// Returns the first of the names that are nearest to a text, or `None` if its edit distance is more than a third of its length, or if an
-/// allocation fails. A text longer than a name may be is near no name, which bounds the search time.
+/// Returns the name that is nearest to a text, the first one if there are several. Returns `None` if the edit distance is more than a third
+/// of the name's length, or if an allocation fails. A text longer than a name may be is near no name, which bounds the search time.
 pub(crate) fn near_name<'a>(
     message: &mut Message,
     names: &[Option<&'a str>],
@@ -191,8 +191,8 @@ fn push_first_names(message: &mut Message, names: &[Option<&str>], count: usize)
     listed_count
 }
 
-// Appends a name, if it exists and the maximum has not been reached. `listed_count` names were appended before it. Returns how many names
-// have been appended then.
+// Appends a name, if it exists and the maximum has not been reached. `listed_count` is the number of names appended before it. Returns the
+// number of names appended so far.
 fn push_next_name(
     message: &mut Message,
     name: Option<&str>,
@@ -210,7 +210,7 @@ fn push_next_name(
     }
 }
 
-// Appends a name unless the maximum has been reached. `listed_count` names were appended before it. Returns how many have been appended then.
+// Appends a name, unless `listed_count`, the number of names appended before it, is the maximum. Returns the number of names appended so far.
 fn push_name_if_listed(
     message: &mut Message,
     name: &str,

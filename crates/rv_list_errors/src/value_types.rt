@@ -1,4 +1,4 @@
-//! Values of another TOML type than their keys require.
+//! Values whose TOML type differs from the type that their keys require.
 
 ghost use Rattle.std.specs.Prelude.{◌≡◌, ◌+◌, ◌^◌, ◌<◌, IfSome, codes, is_some, length, map, not, option_map, true};
 ghost use Rattle.std.specs.List.{find, list_all, position};
