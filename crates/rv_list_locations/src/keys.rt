@@ -31,7 +31,7 @@ pub(crate) enum KeyContext {
     Subtable,
 }
 
-/// A scanned entry or header of a job: the name of the job's key, if it has one, the context of what comes next, and the text after it.
+/// A scanned entry or header of a job: the name of the key that it sets, if any, the context of what comes next, and the text after it.
 #[derive(Drop)]
 pub(crate) struct KeyStep<'a> {
     pub(crate) name: Option<String>,
@@ -172,7 +172,7 @@ fn scan_inner_header(alloc: Global, text: &str) -> Result<KeyStep<'_>, ParseErro
     })
 }
 
-// Returns the part after `job` of a header's key, or `None` if the key does not begin with `job`.
+// Returns the part of a header's key after `job`, or `None` if the key does not begin with `job`.
 fn scan_table_name(alloc: Global, header: &str) -> Result<Option<String>, ParseError>
     requires { slice_index header.now 0 ≡ left_bracket }
     ensures { IfOk result (λ table_name. IfSome table_name (λ name. BeginsWithTable (string_bytes name) header.now)) }

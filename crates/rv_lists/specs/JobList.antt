@@ -1,5 +1,5 @@
--- The job list that a document represents, or the job in error and its error: the keys of a job in the order in which their errors are
--- checked.
+-- The job list that a document represents, or its first error, with the number of the job. The keys of a job are in the order in which their
+-- errors are checked.
 use Rattle.std.specs.Prelude.{◌+◌, ◌==◌, ℕ, ℤ, pos, negsuc, Bool, true, false, not, ◌&&◌, ◌||◌}
 use Rattle.std.specs.Prelude.{List, [], ◌∷◌, ◌++◌, length, Option, Some, None, Result, Ok, Err}
 use Rattle.std.specs.Prelude.{codes, option_and_then, option_map, is_some, unwrap_or, if◌then◌else◌}
@@ -75,7 +75,7 @@ budget_from_table ms =
 abbrev pub script_from_bytes : List ℕ → Result (List ℕ) What
 script_from_bytes bytes = if nat_le (length bytes) max_script_len then Ok bytes else Err what.Input
 
--- the script that consists of decoded bytes, or an error if the digits were invalid or it is too long
+-- the script that consists of decoded bytes, or an error if the digits were invalid or the script is too long
 abbrev pub script_from_decoded : Result (List ℕ) FromHexError → Result (List ℕ) What
 script_from_decoded (Ok bytes) = script_from_bytes bytes
 script_from_decoded (Err e) = Err what.Input
@@ -122,11 +122,11 @@ abbrev pub regions_if_map : List Region → Option MapError → Result (List Reg
 regions_if_map regions None = Ok regions
 regions_if_map regions (Some e) = Err what.Region
 
--- the memory map that the elements of `region` form, or an error if one is invalid or they do not form one
+-- the memory map that the elements of `region` form, or an error if an element is invalid or they do not form a map
 unfoldable pub map_from_elements : Items → Result (List Region) What
 map_from_elements ds = regions_from_elements ds >>= (λ regions. regions_if_map regions (map_error regions))
 
--- the memory map of a job: the regions of `region`, or the default ones if there is no such key
+-- the memory map that the regions of a job's `region` form, or an error if they form none; without this key, the default map
 unfoldable pub map_from_table : Members → Result (List Region) What
 map_from_table ms = parsed_or_default map_from_elements default_regions (array_at_key (codes "region") ms)
 
@@ -222,7 +222,7 @@ end_from_table ms = parsed_or_default end_from_text None (text_at_key (codes "ex
 abbrev pub names_of_jobs : List Job → List (List ℕ)
 names_of_jobs jobs = map (λ (j : Job). j.name) jobs
 
--- the index as the job of `same_as`, or an error if there is no index
+-- the index of the job that `same_as` names, or an error if no index is given
 abbrev pub same_as_from_index : Option ℕ → Result (Option ℕ) What
 same_as_from_index None = Err what.SameAs
 same_as_from_index (Some k) = Ok (Some k)
@@ -231,7 +231,7 @@ same_as_from_index (Some k) = Ok (Some k)
 abbrev pub same_as_from_name : List (List ℕ) → List ℕ → Result (Option ℕ) What
 same_as_from_name earlier t = same_as_from_index (index_in earlier t)
 
--- the index of the job that `same_as` of a job names, or `None` if there is no `same_as`; `earlier` are the names of the earlier jobs, and
+-- the index of the job that a job's `same_as` names, or `None` if there is no `same_as`; `earlier` are the names of the earlier jobs, and
 -- it is an error if none has the name
 unfoldable pub same_as_from_table : List (List ℕ) → Members → Result (Option ℕ) What
 same_as_from_table earlier ms = parsed_or_default (same_as_from_name earlier) None (text_at_key (codes "same_as") ms)

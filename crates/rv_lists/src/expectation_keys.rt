@@ -1,4 +1,4 @@
-//! What a job of a list expects of its row: the keys `expect_exit`, `expect_end`, `expect_console`, `expect_console_file` and
+//! What a job of a list expects of its run: the keys `expect_exit`, `expect_end`, `expect_console`, `expect_console_file` and
 //! `expect_signature`.
 
 ghost use Rattle.std.specs.Prelude.{◌≡◌};

@@ -46,7 +46,7 @@ pub(crate) fn run_options_from_table(
     })
 }
 
-// Returns the index of the job that `same_as` of a job names, or `None` if there is no `same_as`. It is an error if no earlier job has the
+// Returns the index of the job that a job's `same_as` names, or `None` if there is no `same_as`. It is an error if no earlier job has the
 // name.
 #[tactic(auto, unfolding(crate::specs::JobList::same_as_from_table))]
 fn same_as_from_table(earlier: &EarlierJobs, table: &Table) -> Result<Option<usize>, What>
