@@ -123,7 +123,7 @@ abbrev pub refusal_or_default : Option Refusal → Refusal
 refusal_or_default (Some why) = why
 refusal_or_default None = refusal.ImageUnreadable
 
--- ---- the values of single lines; the byte that distinguishes a line from others decides how it is read
+-- ---- the values of single lines; the first byte in which valid lines differ decides how a line is read
 
 -- the job number in a line `job NUMBER NAME`
 abbrev pub job_number_of_line : List ℕ → ℕ
@@ -309,8 +309,8 @@ unfoldable pub with_lines : List (List ℕ) → ReaderStateView → ReaderStateV
 with_lines [] state = state
 with_lines (line ∷ lines) state = with_lines lines (with_line line state)
 
--- the state after the unfinished row, if there is one, has got the missing words of its signature as zeros and the verdict `none`, and was
--- added to the rows
+-- the state after the unfinished row, if there is one, was completed with zeros as the missing words of its signature and with the verdict
+-- `none`, and was added to the rows
 unfoldable pub with_last_row_finished : ReaderStateView → ReaderStateView
 with_last_row_finished state =
     if state.is_in_row then with_finished_row verdict.Unasked (record state { words = padded_words state.count state.words }) else state

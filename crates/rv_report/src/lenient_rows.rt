@@ -225,7 +225,7 @@ fn finish_unfinished_row(alloc: Global, state: &mut ReaderState) -> Result<(), A
     finish_row(alloc, state, Verdict::Unasked)
 }
 
-// Appends words 0 until there are `count` words.
+// Appends zeros until there are `count` words.
 #[tactic(auto, unfolding(crate::specs::LenientReport::padded_words))]
 fn pad_signature_words(words: &mut Vec<u32>, count: u32) -> Result<(), AllocError>
     ensures { OnOk result (words.new.items ≡ padded_words count words.old.items) }

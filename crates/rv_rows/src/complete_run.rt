@@ -76,7 +76,7 @@ pub fn row_from_with_recent(
     row_with_verdict(alloc, plan, i, outcome, is_same)
 }
 
-// Completes the run of a job, unless it is refused, and returns the result.
+// Completes the run of the job at an index, unless the job is refused, and returns the result. `steps` steps have been executed.
 #[tactic(auto, unfolding(crate::specs::Outcome::outcome_of))]
 fn complete_run_of_job(
     alloc: Global,

@@ -245,7 +245,7 @@ pub(crate) fn cache_outcome_if_named(
     Ok(())
 }
 
-// Whether one of the `MAX_OUTCOMES` jobs after job `i` has it as its `same_as`.
+// Whether one of the `MAX_OUTCOMES` jobs after job `i` names it in its `same_as`.
 fn is_named_by_next_jobs(plan: &Plan, i: usize) -> bool
     requires { i < length plan.now.jobs }
 {

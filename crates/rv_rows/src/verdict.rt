@@ -58,7 +58,7 @@ pub fn has_expectations(job: &Job) -> bool
         || job.same_as.is_some()
 }
 
-/// Whether a run ended with an exit with the expected code; true if no code is expected.
+/// Whether a run exited with the expected code; true if no code is expected.
 pub fn has_expected_exit(expected: Option<u32>, ending: RowEnd) -> bool
     ensures { result ≡ has_expected_exit expected ending }
 {
@@ -68,7 +68,7 @@ pub fn has_expected_exit(expected: Option<u32>, ending: RowEnd) -> bool
     }
 }
 
-// Whether a run ended with an exit with this code.
+// Whether a run exited with this code.
 fn exits_with(code: u32, ending: RowEnd) -> bool
     ensures { result ≡ exits_with code ending }
 {
