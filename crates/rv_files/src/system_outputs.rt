@@ -140,8 +140,8 @@ fn real_path_of<R: Files>(
     }
 }
 
-// Returns the path at which the system creates a file when it writes to a path where there is nothing, or only a dangling link; or the path
-// itself if its links cannot be followed.
+// Returns the path at which the system would create a file that is written to `path`, where there is nothing, or only a dangling link.
+// Returns `path` itself if its links cannot be followed.
 fn path_of_missing_file<R: Files>(
     files: &R,
     alloc: Global,

@@ -7,7 +7,7 @@ use Rattle.rv_lists.specs.Limits.{max_file_size}
 use Rattle.rv_jobs.specs.declared.kept.Kept.{Kept}
 use Rattle.rv_jobs.specs.declared.kept.Kept.TheVariants.{Content, TooLong, Unreadable}
 
--- whether the result of reading a path is that it is unreadable, which does not include files that are too long
+-- whether a path was unreadable, given the result of reading it; false if the file is too long
 abbrev pub is_unreadable : Kept → Bool
 is_unreadable Unreadable = true
 is_unreadable _ = false

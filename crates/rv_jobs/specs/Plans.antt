@@ -53,7 +53,7 @@ result_of_path results path =
 abbrev pub result_or_unreadable : List PathResult → List ℕ → Kept
 result_or_unreadable results path = unwrap_or (result_of_path results path) Unreadable
 
--- a list with the job at the index that a job's `same_as` has, or an empty list if there is no `same_as`
+-- the list with only the job at the index that a `same_as` gives, or the empty list if no index is given
 abbrev pub same_as_jobs : List Job → Option ℕ → List Job
 same_as_jobs jobs None = []
 same_as_jobs jobs (Some index) = slice_index_or jobs index (single_job [] 0 []) ∷ []
