@@ -134,7 +134,7 @@ fn has_path_with(before: bool, field: Field) -> bool
     before || field.content == DW_LNCT_PATH
 }
 
-// Reads `count` entries of a format. Returns the count and the entry at an index.
+// Reads `count` entries of a format. Returns the count, and the entry at an index, if there is one.
 fn entries_at<'a>(
     strings: &StringSections<'a>,
     format: &Format<'a>,
