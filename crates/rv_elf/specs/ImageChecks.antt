@@ -32,6 +32,6 @@ program_header_check file = first_error_of (program_header_rows file) accepted
 unfoldable pub segments_and_entry_check : Isa → List ℕ → Result (Unit {0}) ImageError
 segments_and_entry_check isa file = first_error_of (image_rows isa file) accepted
 
--- the image of a file whose header is accepted, or the first error that applies after the header
+-- the image of a file whose header is accepted, or the first error that the checks after those of the header find
 unfoldable pub image_after_header : Isa → List ℕ → Result Image ImageError
 image_after_header isa file = first_error_of (drop 8 (image_error_rows isa file)) (Ok (unchecked_image file))

@@ -120,7 +120,8 @@ symbol_of_value = nearest_symbol Value
 
 -- ---- the ends of names
 
--- `end` is the index after the last zero byte of a string table: a name begins at each index before it, and at no other
+-- `end` is the index after the last zero byte of a string table: a name, which ends with a zero byte, begins at each index below `end`, and
+-- at no other
 pub record IsNamesEnd (strings : List ℕ) (end : ℕ) : Type 0 where
   pub within : end ≤ length strings
   pub names : (k : ℕ) → is_some (text_before_zero (drop k strings)) ≡ nat_lt k end

@@ -109,7 +109,7 @@ impl<'a> CodeSymbols<'a> {
     }
 }
 
-// Returns the symbols of a table that may name code, in order of ascending rank.
+// Returns a table's symbols that may name code, in order of ascending rank.
 fn sorted_symbols(
     alloc: Global,
     table: &[u8],
@@ -124,7 +124,7 @@ fn sorted_symbols(
     Ok(symbols)
 }
 
-// Returns the symbols of a table that may name code, in table order.
+// Returns a table's symbols that may name code, in table order.
 fn code_symbols(alloc: Global, table: &[u8], strings: &[u8]) -> Result<Vec<CodeSymbol>, AllocError>
     requires { length table.now < 2 ^ 32 }
     ensures { IfOk result (λ symbols. AreCodeSymbols table.now strings.now (symbol_count table.now) symbols.items) }

@@ -20,7 +20,8 @@ pub(crate) struct BufferRange {
 impl Map {
     /// Returns where the `len` bytes at an address are stored, or `None` if no region has all of them. `len` must not be 0.
     ///
-    /// Every access goes through here, so the first region is tried without a loop: most maps have only one.
+    /// Every fetch goes through here, and every load or store that [`Map::locate_in_first_region`] does not locate. Most maps have only one
+    /// region, so the first one is tried without a loop.
     #[inline]
     pub(crate) fn place(&self, addr: u32, len: u32) -> Option<BufferRange>
         requires { 0 < len }
