@@ -30,7 +30,7 @@ abbrev pub negative_exit_text : Bool → List ℕ
 negative_exit_text false = codes ""
 negative_exit_text true = codes "; for example, write -1 as 4294967295"
 
--- the explanation of a bad `expect_exit`, given its value, if that is an integer: the key whose value is shown, and the words
+-- the explanation of a bad `expect_exit`, given its value, or `None` if that is not an integer: the key whose value is shown, and the words
 abbrev pub exit_explanation : Option ℤ → Option (List ℕ) × List ℕ
 exit_explanation number = (
   Some (codes "expect_exit"),

@@ -268,7 +268,7 @@ impl<'a> FaultyJob<'a> {
         }
     }
 
-    // Returns the explanation of an invalid text at a key that accepts only a few texts, or `None` if the text is valid or the key is another one.
+    // Returns the explanation of an invalid `load`, `misaligned`, `isa` or `expect_end`, or `None` if the text is valid or at any other key.
     fn choice_fault(&self, key: &str, text: &str) -> Option<Explanation> {
         match key {
             "load" if text != "physical" && text != "virtual" => Some(Explanation::Expected(&LOAD)),

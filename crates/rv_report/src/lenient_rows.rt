@@ -41,7 +41,7 @@ pub struct ReaderState {
 /// Which line comes next.
 #[derive(Clone, Copy)]
 pub(crate) enum Stage {
-    /// The first line of a job, or the last line of all.
+    /// The first line of a job, or the last line of the report.
     BetweenRows,
     Ending,
     Steps,
