@@ -29,7 +29,7 @@ use std::rt::Files;
 #[derive(Drop)]
 pub struct SystemOutputs<'a, R: Files> {
     files: &'a R,
-    // The temporary paths, with `.new` appended, of the files that are neither placed nor abandoned.
+    // The temporary paths, which end in `.new`, of the files that are neither placed nor abandoned.
     uncommitted: Vec<PathBuf>,
 }
 
