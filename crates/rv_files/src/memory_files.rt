@@ -165,7 +165,7 @@ impl Outputs for MemoryOutputs {
         Ok(true)
     }
 
-    // Returns the path itself, which is the only file that writing to it replaces.
+    // Returns the path itself: writing to it replaces only the file at this path.
     fn replaced_files(&self, alloc: Global, path: &str) -> Result<Vec<Text>, FileError> {
         let mut replaced = Vec::with_capacity(alloc, 1)?;
         push_text(&mut replaced, Text::copy(alloc, path)?)?;

@@ -68,8 +68,8 @@ fn check_file(added: Option<Row>, files: FileNumbers) -> Result<(), UnitError>
     }
 }
 
-// Records the source line of the row `before` for the addresses that it covers: those up to, but not including, that of the row `added`.
-// Records nothing if one of the rows does not exist.
+// Records the source line of the row `before` for the addresses that it covers, which end before the address of the row `added`. Records
+// nothing if one of the rows does not exist.
 fn note_row(
     unit: u32,
     before: Option<Row>,

@@ -64,7 +64,7 @@ console_explanation None (Some path) end =
     if is_invalid_path path then (Some (codes "expect_console_file"), path_text) else end_explanation end
 console_explanation None None end = end_explanation end
 
--- the explanation of a bad `expect_signature`, given its text: the key whose value is shown, and the words; `has_signature` is whether the
+-- the explanation of a bad `expect_signature`, given its text: the key whose value is shown, and the words; `has_signature` says whether the
 -- job has a signature; `otherwise` if the key is missing or good
 abbrev pub reference_explanation : Bool → Option (List ℕ) → Option (List ℕ) × List ℕ → Option (List ℕ) × List ℕ
 reference_explanation has_signature None otherwise = otherwise

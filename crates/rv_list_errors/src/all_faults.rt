@@ -53,8 +53,8 @@ pub fn push_all_faults<'a>(
     }
 }
 
-// The data from which the lines about errors are written: the path of the list, the list as it was parsed again, the list's text from the
-// beginning of each job on, and a cursor in the text.
+// The data from which the lines about errors are written: the path of the list, the list as it was parsed again, for each job the list's
+// text from the job on, and a cursor in the text.
 #[derive(Drop)]
 struct FaultLineWriter<'a> {
     file: &'a str,

@@ -175,12 +175,12 @@ exit_from_number z = number_or_fault 0 0xffff_ffff what.Expect z >>= (λ n. Ok (
 unfoldable pub exit_from_table : Members → Result (Option ℕ) What
 exit_from_table ms = parsed_or_default exit_from_number None (number_at_key (codes "expect_exit") ms)
 
--- the path of the expected signature, or an error if it is invalid or the job has no signature; `has_signature` is whether the job has one
+-- the path of the expected signature, or an error if it is invalid or the job has no signature; `has_signature` says whether the job has one
 abbrev pub reference_from_path : Bool → List ℕ → Result (Option (List ℕ)) What
 reference_from_path has_signature path = if has_signature && is_valid_path path then Ok (Some path) else Err what.Expect
 
 -- the path of the expected signature of a job, `None` if it expects none, or an error if the path is invalid or the job has no signature;
--- `has_signature` is whether it has one
+-- `has_signature` says whether it has one
 unfoldable pub reference_from_table : Bool → Members → Result (Option (List ℕ)) What
 reference_from_table has_signature ms = parsed_or_default (reference_from_path has_signature) None (text_at_key (codes "expect_signature") ms)
 

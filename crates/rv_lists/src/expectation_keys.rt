@@ -35,7 +35,7 @@ pub(crate) fn exit_from_table(table: &Table) -> Result<Option<u32>, What>
 }
 
 /// Returns the path of the expected signature of a job, or `None` if it expects none. It is an error if the path is invalid, or if the job has
-/// no signature. `has_signature` is whether it has one.
+/// no signature. `has_signature` says whether it has one.
 #[tactic(auto, unfolding(crate::specs::JobList::reference_from_table))]
 pub(crate) fn reference_from_table(
     alloc: Global,

@@ -26,7 +26,7 @@ pub enum ReadError {
     /// The first invalid line, counted from 1: some report begins with the lines before it, but no report begins with these lines and this one.
     #[error("invalid line {0}")]
     Line(usize),
-    /// The text ends before its report does: its complete lines are those of some report, and the incomplete line after them may begin a
+    /// The text ends before its report does: its complete lines are the first lines of some report, and the incomplete line after them may begin a
     /// line of a report, judging by its first word.
     #[error("the report is truncated")]
     Truncated,
