@@ -38,7 +38,7 @@ pub struct SystemOutputs<'a, R: Files> {
 pub struct PendingFile {
     // The path as given.
     path: Text,
-    // None if the bytes are written directly to what is at the path.
+    // `None` if the bytes are written directly to what is at the path.
     paths: Option<FilePaths>,
 }
 

@@ -26,13 +26,13 @@ higher source found = if is_higher source found then Some source else found
 abbrev pub note_span_at : Span → ℕ → Option SourceLine → Option SourceLine
 note_span_at s a found = if covers a s then higher s.source found else found
 
--- the source line of each address after this span is recorded, given in `found` those before
+-- the list `found`, which has the source line of each address, after this span is recorded
 abbrev pub noted_each : Span → List ℕ → List (Option SourceLine) → List (Option SourceLine)
 noted_each s [] found = []
 noted_each s (a ∷ addresses) [] = []
 noted_each s (a ∷ addresses) (f ∷ found) = note_span_at s a f ∷ noted_each s addresses found
 
--- the source line of each address after these spans are recorded one after another, given in `found` those before
+-- the list `found`, which has the source line of each address, after these spans are recorded in order
 abbrev pub noted_all : List Span → List ℕ → List (Option SourceLine) → List (Option SourceLine)
 noted_all [] addresses found = found
 noted_all (s ∷ spans) addresses found = noted_all spans addresses (noted_each s addresses found)

@@ -44,12 +44,14 @@ enum InsertedText {
     FaultKinds,
 }
 
-/// Whether and how the number of a text's bytes is shown if it exceeds the maximum: never, for a text of bytes, or for pairs of digits.
+/// Which number of bytes is shown for a text if this number exceeds the maximum.
 #[derive(Clone, Copy)]
 enum Bytes {
+    /// None.
     Untold,
+    /// The number of bytes of the text.
     Each,
-    /// Two characters of the text represent one byte.
+    /// Half the number of bytes of the text: two hexadecimal digits represent one byte.
     Pairs,
 }
 

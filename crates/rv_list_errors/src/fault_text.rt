@@ -63,8 +63,7 @@ pub(crate) fn list_fault_message(
     Ok(message)
 }
 
-// Appends what is between the path and the explanation in the message on an error of the job with this number: what
-// `push_location_in_list` appends, or nothing if the list is not TOML.
+// Appends the location of an error of the job with this number, as `push_location_in_list` does, or nothing if the list is not TOML.
 fn push_fault_location(
     message: &mut Vec<u8>,
     view: &FaultView<'_>,

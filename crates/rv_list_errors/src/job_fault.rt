@@ -158,7 +158,7 @@ fn unknown_isa_explanation(isa: &[u8]) -> Explanation
 }
 
 // Returns the explanation for an unknown `isa` with these letters after `rv32`. It lists the known sets. If the first extension that is not
-// simulated is A, F or D, it says this first.
+// simulated is A, F or D, it first says that this extension is not simulated.
 fn unknown_letters_explanation(letters: &[u8]) -> Explanation
     ensures key { explained_key result ≡ Some (codes "isa") }
     ensures words { explained_text result ≡ unknown_letters_text letters.now }
