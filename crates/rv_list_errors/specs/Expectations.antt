@@ -97,7 +97,7 @@ IsExpectationExplanation ms explanation =
 -- ---- instruction sets
 
 -- the explanation of an unknown instruction set: it lists the known sets; if the set is RV64, or if A, F or D is its first extension that is
--- not simulated, it says this first
+-- not simulated, it begins with this reason
 abbrev pub unknown_isa_text : List ℕ → List ℕ
 unknown_isa_text isa =
     if starts_with nat_eq isa (codes "rv64") then codes "RV64 is not simulated: " ++ known_isas_text

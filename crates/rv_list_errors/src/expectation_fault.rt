@@ -113,8 +113,8 @@ pub(crate) fn end_explanation(table: &Table) -> Explanation
     end_text_explanation(text_at_key(table, "expect_end"))
 }
 
-// Returns the explanation of a bad `expect_end`: for the text `exit`, that `expect_exit` is the key to use, and for another text or no
-// text, which texts are accepted.
+// Returns the explanation of a bad `expect_end`. For the text `exit`, it says that `expect_exit` is the key to use. For another text, or if
+// there is no text, it says which texts are accepted.
 fn end_text_explanation(end: Option<&str>) -> Explanation
     ensures { (explained_key result, explained_text result) ≡ end_explanation (borrowed_name end.entry) }
 {

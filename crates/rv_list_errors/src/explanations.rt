@@ -47,7 +47,7 @@ enum InsertedText {
 /// Which number of bytes is shown for a text if this number exceeds the maximum.
 #[derive(Clone, Copy)]
 enum Bytes {
-    /// None.
+    /// No number.
     Untold,
     /// The number of bytes of the text.
     Each,

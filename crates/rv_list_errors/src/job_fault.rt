@@ -143,7 +143,7 @@ pub(crate) fn isa_explanation(table: &Table) -> Explanation
 }
 
 // Returns the explanation for an unknown `isa`. It lists the known sets. If the set is RV64, or if A, F or D is its first extension that is
-// not simulated, it says this first.
+// not simulated, the explanation begins with this reason.
 fn unknown_isa_explanation(isa: &[u8]) -> Explanation
     ensures key { explained_key result ≡ Some (codes "isa") }
     ensures words { explained_text result ≡ unknown_isa_text isa.now }
@@ -157,8 +157,8 @@ fn unknown_isa_explanation(isa: &[u8]) -> Explanation
     }
 }
 
-// Returns the explanation for an unknown `isa` with these letters after `rv32`. It lists the known sets. If the first extension that is not
-// simulated is A, F or D, it first says that this extension is not simulated.
+// Returns the explanation for an unknown `isa` with these letters after `rv32`. It lists the known sets. If A, F or D is the first extension
+// that is not simulated, the explanation begins with this reason.
 fn unknown_letters_explanation(letters: &[u8]) -> Explanation
     ensures key { explained_key result ≡ Some (codes "isa") }
     ensures words { explained_text result ≡ unknown_letters_text letters.now }
