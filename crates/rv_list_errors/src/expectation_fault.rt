@@ -52,7 +52,7 @@ fn reference_or_console_explanation(table: &Table) -> Explanation
     )
 }
 
-// Returns the explanation of a bad `expect_signature`, or `otherwise` if it is missing or good. `path` is its text, and `has_signature` is
+// Returns the explanation of a bad `expect_signature`, or `otherwise` if it is missing or good. `path` is its text, and `has_signature` says
 // whether the job has a signature.
 fn reference_explanation(
     has_signature: bool,

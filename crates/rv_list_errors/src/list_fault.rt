@@ -93,7 +93,8 @@ fn push_not_an_array(message: &mut Message, table: &Table) {
     }
 }
 
-// Appends that a list has no jobs. A key other than `job` is reported too, since it may be meant.
+// Appends that a list has no jobs. If there are keys other than `job`, appends that the first one is unknown, and suggests `job` if that is
+// similar.
 fn push_no_jobs(message: &mut Message, table: &Table) {
     if value_at_key(table, "job").is_some() {
         push_expected_value(message, table, "job", "expected at least one [[job]] table");

@@ -56,7 +56,8 @@ pub(crate) fn reference_from_table(
     }
 }
 
-/// Returns the expected console of a job, or `None` if it expects none. It is an error if both keys are set or the value is invalid.
+/// Returns the expected console of a job, or `None` if it expects none. It is an error if `expect_console` and `expect_console_file` are both
+/// set, or if the value is invalid.
 #[tactic(auto, unfolding(crate::specs::JobList::console_from_table))]
 pub(crate) fn console_from_table(
     alloc: Global,
