@@ -168,7 +168,7 @@ shard_of_text jobs text =
       stamp = name_or_dash (drop 6 (text_after_byte 32 shards));
     })
 
--- the extent that a line `part ROWS of JOBS` describes: chosen jobs, or a shard if the line continues with `shard SHARD/SHARDS stamp STAMP`
+-- the extent that a line `part ROWS of JOBS` describes: selected jobs, or a shard if the line continues with `shard SHARD/SHARDS stamp STAMP`
 unfoldable pub part_extent_of_line : List ℕ → Extent
 part_extent_of_line line =
     let jobs = drop 3 (text_after_byte 32 (drop 5 line)) in

@@ -75,7 +75,7 @@ pub(crate) fn verdict_of_line(line: &[u8]) -> Verdict
     }
 }
 
-/// Returns the extent that a last line `part ROWS of JOBS` describes: chosen jobs, or a shard if the line continues with
+/// Returns the extent that a last line `part ROWS of JOBS` describes: selected jobs, or a shard if the line continues with
 /// `shard SHARD/SHARDS stamp STAMP`.
 #[tactic(auto, unfolding(crate::specs::LenientReport::part_extent_of_line))]
 pub(crate) fn part_extent_of_line(alloc: Global, line: &[u8]) -> Result<Extent, AllocError>

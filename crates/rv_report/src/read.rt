@@ -41,7 +41,7 @@ impl From<AllocError> for ReadError {
     }
 }
 
-/// Returns the report with this text, whether of a whole list, of chosen jobs or of a shard. The error is the first invalid line, or
+/// Returns the report with this text, whether of a whole list, of selected jobs or of a shard. The error is the first invalid line, or
 /// `Truncated`.
 ///
 /// Takes memory for the report's rows, and again for its text; if the text is not a report, for at most 4,096 rows and one more signature
