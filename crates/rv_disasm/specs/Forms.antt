@@ -114,7 +114,7 @@ form32 op.Remu = form_row (codes "remu") register_operands
 
 -- ---- the 16-bit rows
 
--- Instructions that write the register that they read, or that read x0, name it once (chapter 16).
+-- An instruction that writes a register that it also reads names this register once; one that reads x0 does not name x0 (chapter 16).
 
 -- the operands of 16-bit computations with an immediate: `rd, imm`
 abbrev pub register_immediate_operands : Operands

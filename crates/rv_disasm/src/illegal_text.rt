@@ -11,8 +11,8 @@ use crate::unsimulated::{Row, unsimulated16, unsimulated32};
 use rv_isa::{Isa, decode32};
 use std::alloc::AllocError;
 
-/// Appends the description of a 32-bit word that is not in a job's instruction set: its mnemonic and its extension, as in `mul (M: not in
-/// this job's "isa")` or `csrrw (Zicsr: not simulated)`, or `not an instruction` if no known listing has it.
+/// Appends the description of a 32-bit word that is not in a job's instruction set: its mnemonic and its extension, as in
+/// `mul (M: not in this job's "isa")` or `csrrw (Zicsr: not simulated)`, or `not an instruction` if no known listing has it.
 #[tactic(auto, unfolding(crate::specs::Illegal::illegal_text32))]
 pub fn push_illegal32(bytes: &mut Vec<u8>, word: u32) -> Result<(), AllocError>
     ensures { OnOk result (bytes.new.items ≡ bytes.old.items ++ illegal_text32 word) }
@@ -23,8 +23,8 @@ pub fn push_illegal32(bytes: &mut Vec<u8>, word: u32) -> Result<(), AllocError>
     }
 }
 
-/// Appends the description of a halfword that is not in a job's instruction set, as in `c.li (C: not in this job's "isa")` or `c.flw (F:
-/// not simulated)`, or `not an instruction` if no known listing has it.
+/// Appends the description of a halfword that is not in a job's instruction set, as in `c.li (C: not in this job's "isa")` or
+/// `c.flw (F: not simulated)`, or `not an instruction` if no known listing has it.
 #[tactic(auto, unfolding(crate::specs::Illegal::illegal_text16))]
 pub fn push_illegal16(bytes: &mut Vec<u8>, half: u16) -> Result<(), AllocError>
     ensures { OnOk result (bytes.new.items ≡ bytes.old.items ++ illegal_text16 half) }

@@ -1,4 +1,4 @@
--- The symbols of a table that may name code, and their ranks, by which `nearest_candidate` prefers them.
+-- A table's symbols that may name code, and their ranks: `nearest_candidate` prefers the symbol with the highest rank.
 use Rattle.std.specs.Prelude.{◌≡◌, ◌≤◌, ◌<◌, ◌==◌, ◌+◌, ◌-◌, ◌*◌, ◌/◌, ℕ, Bool, ◌&&◌, if◌then◌else◌, true, false, List}
 use Rattle.std.specs.Prelude.{length, drop, nat_le, slice_index_or, Option, None, option_map, is_some}
 use Rattle.std.specs.List.{All, Contains}

@@ -1,5 +1,5 @@
--- The functions of an image and their code: the symbols of the file's first symbol table that are functions with a size and whose bytes are
--- in the file part of an executable segment (System V ABI, "Symbol Table", "Program Header").
+-- The functions of an image and their code: the symbols of the file's first symbol table that are functions and have a size, and whose bytes
+-- are all in the file part of one executable segment (System V ABI, "Symbol Table", "Program Header").
 use Rattle.std.specs.Prelude.{◌==◌, ◌+◌, ◌-◌, ◌%◌, ◌&&◌, ℕ, Bool, List, [], Option, drop, find, if◌then◌else◌, is_ok, nat_le, nat_lt, None, not, option_map, take, unwrap_or}
 use Rattle.std.specs.List.{filter_map}
 use Rattle.std.specs.Option.{option_map_or}

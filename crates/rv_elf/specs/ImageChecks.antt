@@ -20,18 +20,18 @@ program_header_rows file = take 3 (drop 8 (image_error_rows Imc file))
 abbrev pub image_rows : Isa → List ℕ → List ErrorRow
 image_rows isa file = drop 11 (image_error_rows isa file)
 
--- the first error of the header that applies, or `accepted` if none does
+-- the first error that applies to the header, or `accepted` if none does
 unfoldable pub header_check : List ℕ → Result (Unit {0}) ImageError
 header_check file = first_error_of (header_rows file) accepted
 
--- the first error of the program headers that applies, or `accepted` if none does
+-- the first error that applies to the program headers, or `accepted` if none does
 unfoldable pub program_header_check : List ℕ → Result (Unit {0}) ImageError
 program_header_check file = first_error_of (program_header_rows file) accepted
 
--- the first error of the loaded segments and the entry that applies, or `accepted` if none does
+-- the first error that applies to the loaded segments and the entry, or `accepted` if none does
 unfoldable pub segments_and_entry_check : Isa → List ℕ → Result (Unit {0}) ImageError
 segments_and_entry_check isa file = first_error_of (image_rows isa file) accepted
 
--- the image of a file whose header is accepted, or the first error that applies after the header
+-- the image of a file whose header is accepted, or the first error that the checks after those of the header find
 unfoldable pub image_after_header : Isa → List ℕ → Result Image ImageError
 image_after_header isa file = first_error_of (drop 8 (image_error_rows isa file)) (Ok (unchecked_image file))

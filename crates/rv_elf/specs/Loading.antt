@@ -43,7 +43,7 @@ abbrev pub map_rows : List Segment → List Region → LoadAt → List ErrorRow
 map_rows segments regions load_at = (not (list_all (segment_fits regions load_at) segments), SegmentMap)
     ∷ (any_segments_overlap load_at segments, SegmentOverlap) ∷ []
 
--- the first error of loading these segments into a map that applies, or `accepted` if none does
+-- the first error that applies if these segments are loaded into a map, or `accepted` if none does
 unfoldable pub map_check : List Segment → List Region → LoadAt → Result (Unit {0}) ImageError
 map_check segments regions load_at = first_error_of (map_rows segments regions load_at) accepted
 

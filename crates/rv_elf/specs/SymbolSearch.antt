@@ -71,7 +71,7 @@ is_candidate Code segments strings addr s = may_be_code s && (has_section s && (
 is_candidate Value segments strings addr s = (may_be_code s || is_object s) && (has_section s
     && (covers_address addr s && has_usable_name strings s))
 
--- the symbols in the bytes of a symbol table that may name the address `addr`, in table order
+-- the symbols that may name the address `addr`, in table order, given the bytes of a symbol table
 abbrev pub candidates : LookupKind → List Segment → List ℕ → ℕ → List ℕ → List Symbol
 candidates kind segments strings addr table =
     filter (is_candidate kind segments strings addr) (symbols_of table)
@@ -87,39 +87,41 @@ abbrev pub is_preferred_to : Symbol → Symbol → Bool
 is_preferred_to s t = nat_lt t.value s.value
     || ((s.value == t.value) && nat_lt (precedence t) (precedence s))
 
--- the first symbol in a list to which no other symbol of the list is preferred, or `None` if the list is empty
+-- the first symbol of a list such that no symbol of the list is preferred to it, or `None` if the list is empty
 unfoldable pub nearest_candidate : List Symbol → Option Symbol
 nearest_candidate ss = find (λ s. not (list_any (λ t. is_preferred_to t s) ss)) ss
 
--- the name of the symbol, and the offset of the address `addr` from its value; `None` if it has no name
+-- the name of the symbol, and the offset of the address `addr` from the symbol's value; `None` if it has no name
 abbrev pub name_and_offset : List ℕ → ℕ → Symbol → Option (List ℕ × ℕ)
 name_and_offset strings addr s = option_map (λ name. (name, addr - s.value)) (symbol_name strings s)
 
--- the name of the preferred symbol in a symbol table that may name the address `addr`, and the offset of the address from its value; `None`
--- if there is none
+-- the name of the preferred one of a table's symbols that may name the address `addr`, and the offset of the address from the symbol's value;
+-- `None` if there is none
 abbrev pub preferred_symbol : LookupKind → List Segment → ℕ → List ℕ → List ℕ → Option (List ℕ × ℕ)
 preferred_symbol kind segments addr table strings = option_and_then (name_and_offset strings addr)
     (nearest_candidate (candidates kind segments strings addr table))
 
--- the name of the preferred symbol in the file's first symbol table that may name the address `addr`, and the offset of the address from
--- its value; `None` if there is none or the symbol or string table is rejected
+-- the name of the preferred one of the symbols in the file's first symbol table that may name the address `addr`, and the offset of the
+-- address from the symbol's value; `None` if there is none, or if the symbol or string table is rejected
 unfoldable pub nearest_symbol : LookupKind → Image → List ℕ → ℕ → Option (List ℕ × ℕ)
 nearest_symbol kind image file addr = if is_ok (symbol_tables_check file)
     then option_and_then (λ t. preferred_symbol kind image.segments addr t.0 t.1) (symbol_and_string_bytes file)
     else None
 
--- the name of the symbol that a code address belongs to, and the offset of the address from its value; `None` if there is none
+-- the name of the symbol that a code address belongs to, and the offset of the address from the symbol's value; `None` if there is none, or
+-- if the symbol or string table is rejected
 abbrev pub symbol_at : Image → List ℕ → ℕ → Option (List ℕ × ℕ)
 symbol_at = nearest_symbol Code
 
--- the name of the symbol that has this value as its address or covers it, and the offset of the value from the symbol's; `None` if there is
--- none
+-- the name of the preferred symbol that has the given value as its address, or whose bytes include it, and the distance of the value from
+-- the address of this symbol; `None` if there is none, or if the symbol or string table is rejected
 abbrev pub symbol_of_value : Image → List ℕ → ℕ → Option (List ℕ × ℕ)
 symbol_of_value = nearest_symbol Value
 
 -- ---- the ends of names
 
--- `end` is the index after the last zero byte of a string table: a name begins at each index before it, and at no other
+-- `end` is the index after the last zero byte of a string table: a name, which ends with a zero byte, begins at each index below `end`, and
+-- at no other
 pub record IsNamesEnd (strings : List ℕ) (end : ℕ) : Type 0 where
   pub within : end ≤ length strings
   pub names : (k : ℕ) → is_some (text_before_zero (drop k strings)) ≡ nat_lt k end

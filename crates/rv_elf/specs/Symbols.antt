@@ -30,7 +30,7 @@ symbol_table_rows file = (has_bad_section_table file, SectionTable)
     ∷ (option_map_or (has_bad_string_table file) (symbol_table_section file) false, StringTable)
     ∷ []
 
--- the first error of the file's symbol and string tables that applies, or `accepted` if none does
+-- the first error that applies to the file's symbol and string tables, or `accepted` if none does
 unfoldable pub symbol_tables_check : List ℕ → Result (Unit {0}) ImageError
 symbol_tables_check file = first_error_of (symbol_table_rows file) accepted
 

@@ -10,7 +10,7 @@ use crate::symbol_search::{SymbolAt, are_in_one_segment, names_end, text_before_
 use crate::symbols::{SYMBOL_SIZE, Symbol, bytes_from, symbol_and_string_bytes, symbol_at_offset};
 use std::alloc::{AllocError, Global};
 
-// What a lookup by address needs of a symbol that may name code.
+// The data that a lookup by address needs about a symbol that may name code.
 #[derive(Clone, Copy)]
 struct CodeSymbol {
     // Greater for symbols that [`symbol_at`](crate::symbol_at) prefers.
@@ -109,7 +109,7 @@ impl<'a> CodeSymbols<'a> {
     }
 }
 
-// Returns the symbols of a table that may name code, in order of ascending rank.
+// Returns a table's symbols that may name code, in order of ascending rank.
 fn sorted_symbols(
     alloc: Global,
     table: &[u8],
@@ -124,7 +124,7 @@ fn sorted_symbols(
     Ok(symbols)
 }
 
-// Returns the symbols of a table that may name code, in table order.
+// Returns a table's symbols that may name code, in table order.
 fn code_symbols(alloc: Global, table: &[u8], strings: &[u8]) -> Result<Vec<CodeSymbol>, AllocError>
     requires { length table.now < 2 ^ 32 }
     ensures { IfOk result (λ symbols. AreCodeSymbols table.now strings.now (symbol_count table.now) symbols.items) }

@@ -1,4 +1,4 @@
-//! The errors, in the order in which they are checked.
+//! The errors of images, in the order in which they are checked.
 ghost use Rattle.std.specs.Prelude.{◌≡◌};
 ghost use Rattle.rv_elf.specs.declared.error.ImageError.TheVariants.{OutOfMemory};
 ghost use Rattle.rv_elf.specs.ErrorNames.{image_error_name};

@@ -24,9 +24,9 @@ pub struct Function<'a> {
 // The maximum number of bytes shown of a name, so that long names do not cost time for each function.
 const MAX_FUNCTION_NAME_LEN: usize = 1_024;
 
-/// Returns the functions of the file's first symbol table, in table order (System V ABI, "Symbol Table"): the functions with a size whose
-/// bytes are in the file part of an executable segment. Symbols that [`symbol_at`](crate::symbol_at) ignores are left out. There are none
-/// if [`find_symbol`](crate::find_symbol) would reject the tables.
+/// Returns the functions of the file's first symbol table, in table order (System V ABI, "Symbol Table"): those that have a size, and whose
+/// bytes are all in the file part of one executable segment. Symbols that [`symbol_at`](crate::symbol_at) ignores are left out. There are
+/// none if [`find_symbol`](crate::find_symbol) would reject the tables.
 pub fn functions<'a>(
     alloc: Global,
     image: &Image,

@@ -66,7 +66,7 @@ pub fn read_image(alloc: Global, file: &[u8], isa: Isa) -> Result<Image, ImageEr
     read_image_after_header(alloc, file, isa)
 }
 
-// Returns the image of a file whose header is accepted, or the first error that applies after the header.
+// Returns the image of a file whose header is accepted, or the first error that the checks after those of the header find.
 fn read_image_after_header(alloc: Global, file: &[u8], isa: Isa) -> Result<Image, ImageError>
     requires { HasProgramHeaders file.now }
     ensures { MatchResult result (λ image. image_after_header isa file.now ≡ Ok image)

@@ -40,11 +40,11 @@ const STT_FUNC: u8 = 2;
 /// The first reserved section index.
 const SHN_LORESERVE: u16 = 0xff00;
 
-/// Returns the symbol that an address of an image belongs to. Among the functions and untyped symbols of the file's first symbol table
-/// (System V ABI, "Symbol Table"), it is the one with the greatest value that is not above the address and is in one loadable segment with
-/// it. Among symbols with equal values, functions come first, and then table order decides. Symbols without a section of the file, such as
-/// absolute values, and symbols without a name or with one that begins with `.` or `$` are ignored. Returns `None` if there is no such
-/// symbol, or if [`find_symbol`](crate::find_symbol) would reject the tables.
+/// Returns the symbol that an address of an image belongs to: one of the functions and untyped symbols of the file's first symbol table
+/// (System V ABI, "Symbol Table") whose value is not above the address and is in one loadable segment with it. If there are several, it is
+/// the one with the greatest value; among symbols with equal values, functions come first, and then table order decides. Symbols without a
+/// section of the file, such as absolute values, and symbols without a name or with one that begins with `.` or `$` are ignored. Returns
+/// `None` if there is no such symbol, or if [`find_symbol`](crate::find_symbol) would reject the tables.
 ///
 /// Does not allocate. Takes one pass over the table and one over the strings, however long the names are: of each symbol only the first
 /// byte of the name is read, and only the name of the result is scanned.
@@ -69,8 +69,8 @@ pub fn symbol_of_value<'a>(image: &Image, file: &'a [u8], value: u32) -> Option<
     nearest_symbol(image, file, value, LookupKind::Value)
 }
 
-// Returns the preferred symbol in the first symbol table that may name an address, or `None` if there is none. `kind` says whether the
-// address is looked up as code or as a value.
+// Returns the preferred one of the symbols in the file's first symbol table that may name an address, or `None` if there is none. `kind` says
+// whether the address is looked up as code or as a value.
 fn nearest_symbol<'a>(
     image: &Image,
     file: &'a [u8],
@@ -91,8 +91,8 @@ fn nearest_symbol<'a>(
     })
 }
 
-// Returns the preferred symbol of a table that may name an address, or `None` if there is none. A symbol that is not preferred to the best
-// so far is not checked any further.
+// Returns the preferred one of a table's symbols that may name an address, or `None` if there is none. A symbol that is not preferred to the
+// best one so far is not checked any further.
 fn nearest_candidate(
     table: &[u8],
     strings: &[u8],
@@ -116,8 +116,8 @@ fn nearest_candidate(
     best
 }
 
-// Returns the index after the last zero byte of a string table, or 0 if it has none: a name begins at each index before it, and at no
-// other.
+// Returns the index after the last zero byte of a string table, or 0 if it has none. A name, which ends with a zero byte, begins at each
+// index below the returned one, and at no other.
 pub(crate) fn names_end(strings: &[u8]) -> usize
     ensures { IsNamesEnd strings.now result }
 {

@@ -73,7 +73,7 @@ fn is_bad_signature_range(begin: u32, end: u32, map: &Map) -> bool
         || begin < end && (!map.in_one(begin, end - begin) || MAX_SIGNATURE_SIZE < end - begin)
 }
 
-/// Returns the bytes of the file's first symbol table and of its string table, or the first error of these tables that applies.
+/// Returns the bytes of the file's first symbol table and of its string table, or the first error that applies to these tables.
 pub(crate) fn symbol_and_string_bytes(file: &[u8]) -> Result<(&[u8], &[u8]), ImageError>
     requires { 52 ≤ length file.now }
     ensures check { MatchResult result (λ _. symbol_tables_check file.now ≡ accepted)
@@ -143,8 +143,8 @@ pub(crate) fn bytes_from(bytes: &[u8], at: usize) -> &[u8]
     &bytes[at.min(bytes.len())..]
 }
 
-// Whether the bytes before the first zero byte equal `text`. If `text` contains a zero byte, they do not; it is checked last, since few
-// candidates get that far.
+// Whether the bytes before the first zero byte equal `text`; false if there is no zero byte, or if `text` has one. The latter is checked
+// last, since few candidates get that far.
 fn begins_with_name(bytes: &[u8], text: &[u8]) -> bool
     ensures { result ≡ begins_with_name bytes.now text.now }
 {

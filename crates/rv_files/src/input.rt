@@ -53,8 +53,8 @@ pub fn read_at_most<R: Read>(
     Ok(bytes)
 }
 
-// Reads once, at most as many bytes as `bytes` lacks to have `max_len`, appends them, and returns how many they are. A separate buffer
-// receives them, so that a failed allocation is not taken for a failed read.
+// Reads once and appends the bytes to `bytes`, which then has at most `max_len` bytes. Returns how many bytes were read: 0 only at the end of
+// the reader. They are read into a separate buffer, so that a failed allocation is not mistaken for a failed read.
 fn read_once<R: Read>(
     input: &mut R,
     buffer: &mut [u8; BUFFER_SIZE],

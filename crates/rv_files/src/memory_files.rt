@@ -107,8 +107,8 @@ impl MemoryOutputs {
         MemoryOutputs::with_steps(alloc, u64::MAX)
     }
 
-    /// Returns outputs without files that allow `steps` steps and reject all later ones. Creating, syncing and placing a file are one step
-    /// each. Does not allocate.
+    /// Returns outputs without files. They allow `steps` steps and reject all later ones. Creating, syncing and placing a file are one step each.
+    /// Does not allocate.
     pub fn with_steps(alloc: Global, steps: u64) -> MemoryOutputs
         ensures nothing_committed { result.committed.items ≡ [] }
         ensures steps { result.steps_left ≡ steps }
@@ -165,7 +165,7 @@ impl Outputs for MemoryOutputs {
         Ok(true)
     }
 
-    // Returns the path itself, which is the only file that writing to it replaces.
+    // Returns the path itself: writing to it replaces only the file at this path.
     fn replaced_files(&self, alloc: Global, path: &str) -> Result<Vec<Text>, FileError> {
         let mut replaced = Vec::with_capacity(alloc, 1)?;
         push_text(&mut replaced, Text::copy(alloc, path)?)?;

@@ -19,8 +19,8 @@ pub trait Closable: Sink {
         ensures { result ≡ closed self.now };
 }
 
-/// A stream of the process, such as standard output, as a sink that may be closed. Like a [`StreamSink`](crate::StreamSink), it writes and
-/// flushes once per write, and reveals no bytes.
+/// A stream of the process, such as standard output, as a sink that may be closed. As with a [`StreamSink`](crate::StreamSink), each write to
+/// the sink is one write to the stream and one flush, and the contracts do not reveal the bytes.
 #[derive(Drop)]
 pub struct PipeSink<W: Drop> {
     stream: W,

@@ -9,9 +9,9 @@ use crate::last_error::LastError;
 use rv_base::{Sink, SinkFailed};
 use std::io::{ErrorKind, Write};
 
-/// A stream of the process as a sink. Each write is one write and one flush, so nothing is buffered. The sink reveals no bytes, since no
-/// contract can know what the stream's reader got; if a write or its flush fails, the stream has received a possibly empty prefix of the
-/// bytes.
+/// A stream of the process as a sink. Each write to the sink is one write to the stream and one flush, so nothing is buffered. The sink
+/// reveals no bytes, since no contract can know what the stream's reader got; if a write or its flush fails, the stream has received a
+/// possibly empty prefix of the bytes.
 #[derive(Drop)]
 pub struct StreamSink<W: Drop> {
     stream: W,

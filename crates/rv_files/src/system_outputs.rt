@@ -29,7 +29,7 @@ use std::rt::Files;
 #[derive(Drop)]
 pub struct SystemOutputs<'a, R: Files> {
     files: &'a R,
-    // The temporary paths, with `.new` appended, of the files that are neither placed nor abandoned.
+    // The temporary paths, which end in `.new`, of the files that are neither placed nor abandoned.
     uncommitted: Vec<PathBuf>,
 }
 
@@ -38,7 +38,7 @@ pub struct SystemOutputs<'a, R: Files> {
 pub struct PendingFile {
     // The path as given.
     path: Text,
-    // None if the bytes are written directly to what is at the path.
+    // `None` if the bytes are written directly to what is at the path.
     paths: Option<FilePaths>,
 }
 
@@ -103,7 +103,7 @@ where
     fn check_not_same_file(&self, alloc: Global, paths: &FilePaths) -> Result<(), FileError>
         ensures not_the_first { IfErr result (λ error. error ≡ FileError.SameFile → 0 < vec_len self.now.uncommitted) }
     {
-        // If the other file's final path is this one's temporary path, this is the other's temporary path.
+        // If the other file's final path is this file's temporary path, then `newer` is the other file's temporary path.
         let newer = with_new_suffix(alloc, paths.temporary.as_str())?;
         for other in &self.uncommitted {
             for path in [&paths.temporary, &paths.destination, &newer] {
@@ -140,8 +140,8 @@ fn real_path_of<R: Files>(
     }
 }
 
-// Returns the path at which the system creates a file when it writes to a path where there is nothing, or only a dangling link; or the path
-// itself if its links cannot be followed.
+// Returns the path at which the system would create a file that is written to `path`, where there is nothing, or only a dangling link.
+// Returns `path` itself if its links cannot be followed.
 fn path_of_missing_file<R: Files>(
     files: &R,
     alloc: Global,
@@ -206,7 +206,7 @@ where
         }
     }
 
-    // Creates a file for a path: a locked temporary file, or, if something other than a regular file is at the path, opens that.
+    // Creates a locked temporary file for a path; if something other than a regular file is at the path, opens that instead.
     fn create(
         &mut self,
         alloc: Global,

@@ -16,7 +16,7 @@ use std::process::Abort;
 use std::rt::Files;
 use std::test::Fail;
 
-// Writes a file. The contract shows that the clauses of outputs suffice to determine what is written.
+// Writes a file. The contract shows that the clauses of `Outputs` suffice to determine what is written.
 fn write_file<F: Outputs>(
     outputs: &mut F,
     alloc: Global,
@@ -35,7 +35,7 @@ fn write_file<F: Outputs>(
     outputs.place(place, synced)
 }
 
-// Returns the outcome of writing a file as a text.
+// Returns a text for the outcome of writing a file.
 fn outcome_text(outcome: Result<(), FileError>) -> &'static str {
     match outcome {
         Ok(()) => "placed",
@@ -59,8 +59,8 @@ report|missing/report|failed|first
 /dev/null|/dev/null|placed|
 ";
 
-// Writes a second file while a first one is not yet placed, and checks the outcome, and the contents of the first file once it is placed,
-// as in the line `FIRST|SECOND|OUTCOME|CONTENTS`.
+// Writes a second file while a first one is not yet placed. Checks the outcome of this, and the contents of the first file after it is placed,
+// against the line `FIRST|SECOND|OUTCOME|CONTENTS`.
 fn check_pair<R: Files + Abort>(rt: &R, alloc: Global, line: &str) -> Result<(), Fail>
 where
     R::File: FileLock,
@@ -274,7 +274,7 @@ fn a_file_is_abandoned(rt: HostRuntime) -> Result<(), Fail> {
     Ok(())
 }
 
-// If a directory is at the path in the meantime, placing the file fails, and its temporary file is removed.
+// If a directory is at the path when a file is to be placed there, placing the file fails, and its temporary file is removed.
 #[test]
 fn a_file_that_cannot_be_placed_is_removed(rt: HostRuntime) -> Result<(), Fail> {
     fs::write(&rt, "turned", "old")?;

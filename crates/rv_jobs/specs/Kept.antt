@@ -7,7 +7,7 @@ use Rattle.rv_lists.specs.Limits.{max_file_size}
 use Rattle.rv_jobs.specs.declared.kept.Kept.{Kept}
 use Rattle.rv_jobs.specs.declared.kept.Kept.TheVariants.{Content, TooLong, Unreadable}
 
--- whether the result of reading a path is that it is unreadable, which does not include files that are too long
+-- whether a path was unreadable, given the result of reading it; false if the file is too long
 abbrev pub is_unreadable : Kept → Bool
 is_unreadable Unreadable = true
 is_unreadable _ = false
@@ -16,7 +16,7 @@ is_unreadable _ = false
 abbrev pub faults_after_read : Kept → ℕ → ℕ
 faults_after_read kept n = if is_unreadable kept then one_more n else n
 
--- the result of reading a path agrees with the contents of the files, if these are known
+-- the result of reading a path agrees with the contents of the files, if these are known; `Unreadable` agrees with any contents
 abbrev pub AgreesWithContents : Option FileContents → List ℕ → Kept → Type 0
 AgreesWithContents contents path (Content bytes) =
     (length bytes ≤ max_file_size) × IfSome contents (λ files. files path ≡ Some bytes)

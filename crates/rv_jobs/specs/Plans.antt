@@ -33,7 +33,7 @@ abbrev pub with_path_if_any : List (List ℕ) → Option (List ℕ) → List (Li
 with_path_if_any paths None = paths
 with_path_if_any paths (Some p) = with_path paths p
 
--- the paths with those paths of the job appended that they do not have: its image, its expected signature, and the file with its expected
+-- the paths, with the job's paths appended that are not yet among them: its image, its expected signature, and the file with its expected
 -- console text
 abbrev pub with_job_paths : List (List ℕ) → Job → List (List ℕ)
 with_job_paths paths job =
@@ -53,7 +53,7 @@ result_of_path results path =
 abbrev pub result_or_unreadable : List PathResult → List ℕ → Kept
 result_or_unreadable results path = unwrap_or (result_of_path results path) Unreadable
 
--- the job that `same_as` of a job names, as a list, which is empty if there is no `same_as`; the argument is its index
+-- the list with only the job at the index that a `same_as` gives, or the empty list if no index is given
 abbrev pub same_as_jobs : List Job → Option ℕ → List Job
 same_as_jobs jobs None = []
 same_as_jobs jobs (Some index) = slice_index_or jobs index (single_job [] 0 []) ∷ []

@@ -103,7 +103,7 @@ impl<'a> PathResults<'a> {
     }
 }
 
-/// Reads the paths of a job, and returns the indices of their results.
+/// Reads the paths of a job, and returns all results so far, with the indices of the results for these paths.
 fn read_paths_of_job<'a, S: Store>(
     alloc: Global,
     store: &mut S,
@@ -149,7 +149,7 @@ pub(crate) fn console_path(job: &Job) -> Option<&str>
     }
 }
 
-/// Reads a path, if there is one, and returns the index of its result, or `None` if there is no path.
+/// Reads a path, if there is one, and returns all results so far, with the index of the result for the path, or `None` if there is no path.
 fn read_path_if_any<'a, S: Store>(
     alloc: Global,
     store: &mut S,

@@ -96,7 +96,7 @@ fields_of_header strings version bytes = do
     files = files.0;
   })
 
--- the bytes after address_size, which must be 4, and segment_selector_size, which must be 0; DWARF 2 to 4 do not have them
+-- the bytes after the fields address_size, which must be 4, and segment_selector_size, which must be 0; DWARF 2 to 4 have neither field
 unfoldable pub addresses_check : ℕ → List ℕ → Result (List ℕ) UnitError
 addresses_check version bytes = if version == 5 then (do
   size ← byte_at unit.HeaderCutOff bytes

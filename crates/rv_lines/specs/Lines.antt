@@ -67,8 +67,8 @@ units_of strings section = units (length section) strings 0 section
 unfoldable pub line_at : Strings → List ℕ → ℕ → Option SourceLine
 line_at strings section a = option_and_then with_line (source_at (all_spans (units_of strings section)) a)
 
--- `source` is the source line of a span that covers an address; no span that covers it has a greater `low`, and none before it has an equal
--- one
+-- `source` is the source line of a span that covers the address `a`; no span that covers this address has a greater `low`, and none that
+-- covers it and comes before the span has an equal one
 pub record IsSourceOf (spans : List Span) (a : ℕ) (source : SourceLine) : Type 0 where
   pub span : Span
   pub is : span.source ≡ source

@@ -103,8 +103,8 @@ is_open begun (row ∷ rows) = is_open (not row.ends) rows
 abbrev pub require_closed : List Row → Result (List Row) UnitError
 require_closed rows = if is_open false rows then Err OpenSequence else Ok rows
 
--- the rows of the operations before the first that cannot be read, or the first error: a row whose file the unit does not have, an
--- operation that cannot be read, or an end in the middle of a sequence
+-- the rows of a program, or its first error. `rows` are the rows of the operations before the first one that cannot be read. The errors are,
+-- in this order: a row whose file the unit does not have, an operation that cannot be read, and an end in the middle of a sequence
 abbrev pub check_rows : FileNumbers → Program → List Row → Result (List Row) UnitError
 check_rows files ops rows = if list_any (lacks_file files) rows then Err FileNumber else option_map_or Err ops.1 (require_closed rows)
 

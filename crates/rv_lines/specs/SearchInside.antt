@@ -14,7 +14,7 @@ use Rattle.rv_lines.specs.Lines.{covers, with_line}
 use Rattle.rv_lines.specs.Reading.{◌>>=◌}
 use Rattle.rv_lines.specs.Rows.{lacks_file, program_rows}
 
--- whether a source line replaces `found`: no source line, or one with a smaller `low`
+-- whether the source line `source` replaces `found`: there is no source line in `found`, or its `low` is smaller
 abbrev pub is_higher : SourceLine → Option SourceLine → Bool
 is_higher source found = option_map_or (λ f. nat_lt f.low source.low) found true
 
@@ -26,13 +26,13 @@ higher source found = if is_higher source found then Some source else found
 abbrev pub note_span_at : Span → ℕ → Option SourceLine → Option SourceLine
 note_span_at s a found = if covers a s then higher s.source found else found
 
--- the source line of each address after one more span
+-- the list `found`, which has the source line of each address, after this span is recorded
 abbrev pub noted_each : Span → List ℕ → List (Option SourceLine) → List (Option SourceLine)
 noted_each s [] found = []
 noted_each s (a ∷ addresses) [] = []
 noted_each s (a ∷ addresses) (f ∷ found) = note_span_at s a f ∷ noted_each s addresses found
 
--- the source line of each address after more spans
+-- the list `found`, which has the source line of each address, after these spans are recorded in order
 abbrev pub noted_all : List Span → List ℕ → List (Option SourceLine) → List (Option SourceLine)
 noted_all [] addresses found = found
 noted_all (s ∷ spans) addresses found = noted_all spans addresses (noted_each s addresses found)

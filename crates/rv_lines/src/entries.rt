@@ -36,8 +36,8 @@ pub(crate) struct Format<'a> {
     pub(crate) bytes: &'a [u8],
 }
 
-/// Reads a list of directories or files in the form of DWARF 2 to 4, which ends with an empty name. Returns the number of entries and the
-/// entry at an index.
+/// Reads a list in the form of DWARF 2 to 4, which ends with an empty name: a list of files if `of_files` is true, and otherwise of
+/// directories. Returns the number of entries, and the entry at an index, if the list has it.
 pub(crate) fn list_at<'a>(
     of_files: bool,
     index: Option<u64>,
@@ -90,7 +90,8 @@ fn numbers_at(of_files: bool, bytes: &[u8]) -> Result<(u64, &[u8]), UnitError>
 }
 
 /// Reads a list of directories or files in the form of DWARF 5, which is the entry format, the number of entries and the entries. Returns
-/// the number of entries and the entry at an index. The error is `EntryForm` if there are entries and none of their fields is a path.
+/// the number of entries, and the entry at an index, if the list has it. The error is `EntryForm` if there are entries and none of their
+/// fields is a path.
 #[tactic(auto, unfolding(crate::specs::Entries::table_at))]
 pub(crate) fn table_at<'a>(
     strings: &StringSections<'a>,
@@ -133,7 +134,7 @@ fn has_path_with(before: bool, field: Field) -> bool
     before || field.content == DW_LNCT_PATH
 }
 
-// Reads `count` entries of a format. Returns the count and the entry at an index.
+// Reads `count` entries of a format. Returns the count, and the entry at an index, if there is one.
 fn entries_at<'a>(
     strings: &StringSections<'a>,
     format: &Format<'a>,

@@ -172,8 +172,8 @@ fn index_of(first: u32, number: u64) -> Option<u64>
     number.checked_sub(u64::from(first))
 }
 
-// Reads a list of directories, or of files if `of_files` is true, in the form of the version. Returns the number of entries and the entry
-// at an index.
+// Reads a list of directories, or of files if `of_files` is true, in the form of the version. Returns the number of entries, and the entry
+// at an index, if the list has it.
 #[tactic(auto, unfolding(crate::specs::Header::entries_of_version))]
 fn entries_of_version<'a>(
     strings: &StringSections<'a>,

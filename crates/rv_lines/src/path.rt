@@ -21,9 +21,9 @@ pub struct SourcePath<'a> {
 }
 
 /// Returns the path of the file with the number `file` in the unit at the offset `unit` of `.debug_line`, as in a
-/// [`SourceLine`](crate::SourceLine); `None` if the unit's header is rejected or has no such file. The path is NAME if that begins with
-/// `/`, if its directory is number 0, the compiler's own, if no directory has its number, or if the name of that directory is empty;
-/// otherwise it is DIRECTORY/NAME. Reads the header again. Does not allocate.
+/// [`SourceLine`](crate::SourceLine); `None` if the unit's header is rejected or has no such file. The path is NAME if this begins with `/`,
+/// or if the file's directory is number 0 (the compiler's own), does not exist, or has an empty name; otherwise it is DIRECTORY/NAME. Reads
+/// the header again. Does not allocate.
 pub fn source_path<'a>(tables: &LineTables<'a>, unit: u32, file: u32) -> Option<SourcePath<'a>>
     ensures { MatchOption result (path_of (view_strings tables.now.strings) tables.now.lines.now unit file ≡ None)
         (λ p. path_of (view_strings tables.now.strings) tables.now.lines.now unit file ≡ Some (view_path p)) }

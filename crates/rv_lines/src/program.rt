@@ -20,8 +20,8 @@ pub(crate) struct Program<'a> {
     pub(crate) bytes: &'a [u8],
 }
 
-/// Runs a program and records the spans of its rows in `found`, which has a result for each address; or returns the program's first error,
-/// and then some spans may have been recorded.
+/// Runs a program, and records the spans of its rows in `found`, which has a result for each address. Returns the program's first error, if
+/// there is one; some spans may have been recorded before it.
 pub(crate) fn note_program(
     program: &Program,
     addresses: &[u32],
@@ -68,7 +68,8 @@ fn check_file(added: Option<Row>, files: FileNumbers) -> Result<(), UnitError>
     }
 }
 
-// Records the source line of the row `before` for the addresses from this row to the row `added`, if both exist.
+// Records the source line of the row `before` for the addresses that it covers, which end before the address of the row `added`. Records
+// nothing if one of the rows does not exist.
 fn note_row(
     unit: u32,
     before: Option<Row>,

@@ -30,7 +30,7 @@ abbrev pub negative_exit_text : Bool → List ℕ
 negative_exit_text false = codes ""
 negative_exit_text true = codes "; for example, write -1 as 4294967295"
 
--- the explanation of a bad `expect_exit`, given its value, if that is an integer: the key whose value is shown, and the words
+-- the explanation of a bad `expect_exit`, given its value, or `None` if that is not an integer: the key whose value is shown, and the words
 abbrev pub exit_explanation : Option ℤ → Option (List ℕ) × List ℕ
 exit_explanation number = (
   Some (codes "expect_exit"),
@@ -64,7 +64,7 @@ console_explanation None (Some path) end =
     if is_invalid_path path then (Some (codes "expect_console_file"), path_text) else end_explanation end
 console_explanation None None end = end_explanation end
 
--- the explanation of a bad `expect_signature`, given its text: the key whose value is shown, and the words; `has_signature` is whether the
+-- the explanation of a bad `expect_signature`, given its text: the key whose value is shown, and the words; `has_signature` says whether the
 -- job has a signature; `otherwise` if the key is missing or good
 abbrev pub reference_explanation : Bool → Option (List ℕ) → Option (List ℕ) × List ℕ → Option (List ℕ) × List ℕ
 reference_explanation has_signature None otherwise = otherwise
@@ -87,8 +87,8 @@ abbrev pub reference_explanation_of : Members → Option (List ℕ) × List ℕ
 reference_explanation_of ms = reference_explanation (is_some (get_member (codes "signature") ms))
     (text_at_key (codes "expect_signature") ms) (console_explanation_of ms)
 
--- `explanation`, the key whose value is shown and the words, explains the first bad expectation of the job: `expect_exit`, if the job has
--- this key, or another expectation
+-- `explanation`, the key whose value is shown and the words, explains either a bad `expect_exit`, if the job has this key, or the first bad
+-- one of the job's other expectations
 abbrev pub IsExpectationExplanation : Members → Option (List ℕ) × List ℕ → Type 0
 IsExpectationExplanation ms explanation =
     ((is_some (get_member (codes "expect_exit") ms) ≡ true) × (explanation ≡ exit_explanation (number_at_key (codes "expect_exit") ms)))
@@ -96,7 +96,8 @@ IsExpectationExplanation ms explanation =
 
 -- ---- instruction sets
 
--- the explanation of an unknown instruction set: which part of it is not simulated, if it is a common one, and the known sets
+-- the explanation of an unknown instruction set: it lists the known sets; if the set is RV64, or if A, F or D is its first extension that is
+-- not simulated, it begins with this reason
 abbrev pub unknown_isa_text : List ℕ → List ℕ
 unknown_isa_text isa =
     if starts_with nat_eq isa (codes "rv64") then codes "RV64 is not simulated: " ++ known_isas_text

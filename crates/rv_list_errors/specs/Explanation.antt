@@ -31,7 +31,7 @@ AppendsTextThat before after IsSo = OnOk after.grown
 
 -- ---- actual values
 
--- `shown` is how a value is shown: a text in quotes, or another value as in TOML
+-- `shown` is how a value is shown: a text in quotes, any other value in TOML notation; it is printable, and cut off if it is long
 abbrev pub IsShownValue : Data → List ℕ → Type 0
 IsShownValue value shown = MatchOption (as_str value)
     ((text : List ℕ) × IsValueText false value text × (shown ≡ printable_value text)) (λ text. shown ≡ quoted text)
@@ -52,8 +52,7 @@ IsExpectedValue key value expected message =
 
 -- ---- errors of the whole list
 
--- `message` is the explanation of a text that is not TOML: the line and column of the byte at index `index`, where the error is, and a
--- reason
+-- `message` explains why a text is not TOML: it gives the line and column of the byte at index `index`, where the error is, and a reason
 abbrev pub ExplainsNotToml : List ℕ → ℕ → List ℕ → Type 0
 ExplainsNotToml text index message = (reason : List ℕ) × (message
     ≡ codes ":" ++ (decimal (line_at index text) ++ (codes ":" ++ (decimal (column_at index text)
@@ -99,13 +98,13 @@ region_number_text index = codes "region " ++ decimal (index + 1)
 
 -- ---- names
 
--- the suggestion for an unknown job name: the given name, if one is near, or else all the names in the list, which belong to the earlier
+-- the suggestion for an unknown job name: the nearest name, if one is given, or else all names in the list, which are those of the earlier
 -- jobs
 abbrev pub nearest_job_text : List (Option (List ℕ)) → Option (List ℕ) → List ℕ
 nearest_job_text names (Some name) = codes "; a similar name exists: " ++ quoted name
 nearest_job_text names None = codes "; the earlier jobs are " ++ names_text (present names)
 
--- `message` suggests the name that is nearest to `expected`, an unknown name of a job, or, if that is not near, lists all of these names
+-- `message` suggests the name that is nearest to the unknown name `expected`, or lists all names if none is near
 abbrev pub IsJobNameSuggestion : List (Option (List ℕ)) → List ℕ → List ℕ → Type 0
 IsJobNameSuggestion names expected message =
     (near : Option (List ℕ)) × IsNearName names expected near × (message ≡ nearest_job_text names near)
@@ -118,7 +117,7 @@ kind_text index =
     (if index == 0 then [] else if index + 1 == length fault_kinds then codes " or " else codes ", ")
     ++ quoted (fault_name (slice_index_or fault_kinds index fault.FetchAccess))
 
--- the names of the first kinds of faults, as many as the argument says, as a sentence lists them
+-- the names in quotes of the first kinds of faults, as many as the argument says, each after its separator
 unfoldable pub first_fault_kinds_text : ℕ → List ℕ
 first_fault_kinds_text zero = []
 first_fault_kinds_text (suc count) = first_fault_kinds_text count ++ kind_text count
@@ -156,7 +155,8 @@ known_isas_text = codes "expected \"rv32i\", \"rv32im\", \"rv32ic\" or \"rv32imc
 abbrev pub is_unsimulated : ℕ → Bool
 is_unsimulated letter = not (letter == 105 || letter == 109 || letter == 99)
 
--- the explanation of an unknown instruction set, given its first letter that is not simulated, if any: the A, F and D extensions are named
+-- the explanation of an unknown instruction set, given its first letter that is not simulated, if any: it lists the known sets; for A, F and
+-- D, it first says that the extension is not simulated
 abbrev pub unknown_letter_text : Option ℕ → List ℕ
 unknown_letter_text None = known_isas_text
 unknown_letter_text (Some letter) =

@@ -15,7 +15,7 @@ use Rattle.rv_list_errors.specs.declared.fault_text.FaultView.TheVariants as loo
 
 -- ---- the names of jobs
 
--- the name of an element of `job`, if it is a table with a text at `name`
+-- the name of an element of `job`, or `None` if it is not a table with a text at `name`
 abbrev pub element_name : Data → Option (List ℕ)
 element_name (table ms) = text_at_key (codes "name") ms
 element_name _ = None
@@ -25,7 +25,7 @@ unfoldable pub element_names : Items → List (Option (List ℕ))
 element_names no_items = []
 element_names (item d ds) = element_name d ∷ element_names ds
 
--- the elements of `job` in a document, or none if it is not an array
+-- the elements of `job` in a document; empty if it is missing or not an array
 abbrev pub job_array_elements : Members → Items
 job_array_elements ms = unwrap_or (array_at_key (codes "job") ms) no_items
 
@@ -40,7 +40,7 @@ abbrev pub line_text : Option ℕ → List ℕ
 line_text None = []
 line_text (Some number) = codes ":" ++ decimal number
 
--- the name of a job after a space and in quotes, or nothing if it has none
+-- a space and the name of a job in quotes, or nothing if it has no name
 abbrev pub name_text : Option (List ℕ) → List ℕ
 name_text None = []
 name_text (Some name) = codes " \"" ++ (printable_value name ++ codes "\"")
@@ -59,7 +59,7 @@ abbrev pub fault_location : List ℕ → List (Option (List ℕ)) → ℕ → Li
 fault_location line_numbers names number = if number == 0 then codes ": error: " else job_heading line_numbers names number
 
 -- the text between the path and the explanation of an error of the job with this number, given the list's text and its document; empty if
--- the text is not a document
+-- there is no document, since the text is not TOML
 abbrev pub location_in_document : List ℕ → Option Members → ℕ → List ℕ
 location_in_document text None number = []
 location_in_document text (Some ms) number = fault_location (job_lines text) (job_names ms) number

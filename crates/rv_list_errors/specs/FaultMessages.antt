@@ -6,12 +6,12 @@ use Rattle.rv_lists.specs.declared.error.JobError.{JobError}
 use Rattle.rv_list_errors.specs.FaultHeads.{job_array_elements, fault_head, job_names}
 use Rattle.rv_list_errors.specs.JobFaults.{HasHeadAndTail, ExplainsJobFault, element_at}
 
--- `message` explains this error of a document from the values of the bad job; an error of the whole list may have any explanation
+-- `message` explains this error of a document by the values of the bad job; an error of the whole list may have any explanation
 abbrev pub ExplainsFaultOfDocument : Members → JobError → List ℕ → Type 0
 ExplainsFaultOfDocument ms fault message = 0 < fault.job → ExplainsJobFault
     (job_names ms) (element_at (job_array_elements ms) (fault.job - 1)) fault.what message
 
--- `message` explains this error of a document from the values of the bad job; without a document, any text will do
+-- `message` explains this error of a document by the values of the bad job; without a document, any text will do
 abbrev pub ExplainsFaultIn : Option Members → JobError → List ℕ → Type 0
 ExplainsFaultIn None fault message = ⊤
 ExplainsFaultIn (Some ms) fault message = ExplainsFaultOfDocument ms fault message

@@ -191,7 +191,7 @@ key_of _ = None
 abbrev pub BeginsWithValue : List ℕ → Members → List ℕ → Type 0
 BeginsWithValue key ms message = (key_and_value : List ℕ) × IsKeyAndValue key (get_member key ms) key_and_value × BeginsWith key_and_value message
 
--- `message` first shows the key and its value, or says that the key is missing, or it begins with `region `
+-- `message` begins with `region `, or it first shows the key and its value, or says that the key is missing
 abbrev pub BeginsWithRegion : List ℕ → Members → List ℕ → Type 0
 BeginsWithRegion key ms message = BeginsWithValue key ms message ⊎ BeginsWith (codes "region ") message
 
@@ -299,8 +299,8 @@ ExplainsFaultOfTable names ms kind message = ExplainsOwnFault kind ms message
 abbrev pub ExplainsNonTable : Data → List ℕ → Type 0
 ExplainsNonTable value message = (shown : List ℕ) × IsShownValue value shown × (message ≡ codes "expected a table, found " ++ shown)
 
--- `message` explains this error of an element of `job`, in a list whose jobs have these names; for a missing element it is only the error's
--- name
+-- `message` explains this error of an element of `job`, in a list whose jobs have these names; if the element is missing, `message` is only
+-- the error's name
 abbrev pub ExplainsJobFault : List (Option (List ℕ)) → Option Data → What → List ℕ → Type 0
 ExplainsJobFault names None kind message = message ≡ job_error_name kind
 ExplainsJobFault names (Some (table ms)) kind message = ExplainsFaultOfTable names ms kind message
@@ -312,7 +312,7 @@ element_at no_items index = None
 element_at (item d ds) zero = Some d
 element_at (item d ds) (suc index) = element_at ds index
 
--- `message` explains this error of a list, if it is an error of a job, by the values of that job
+-- if this error of a list is an error of a job, `message` explains it by the values of that job
 abbrev pub ExplainsFaultOfList : listed.List → JobError → List ℕ → Type 0
 ExplainsFaultOfList list fault message = 0 < fault.job → ExplainsJobFault
     (borrowed_names list.names.items) (element_at (items_view list.jobs.now) (fault.job - 1)) fault.what message

@@ -13,8 +13,8 @@ use Rattle.rv_list_locations.specs.LinesAndColumns.{column_at, line_at}
 abbrev pub location_text : ℕ → List ℕ → List ℕ
 location_text index text = codes ":" ++ (decimal (line_at index text) ++ (codes ":" ++ decimal (column_at index text)))
 
--- the beginning of the line that reports an error of the job with this number at index `index` of the text: the path, the line and
--- column, and the job's number and name
+-- the beginning of the line that reports an error at index `index` of the text, in the job with this number: the path, the line and column,
+-- and the job's number and name
 abbrev pub located_head : List ℕ → List ℕ → List (Option (List ℕ)) → ℕ → ℕ → List ℕ
 located_head path text names number index = path ++ (location_text index text ++ job_number_and_name names number)
 

@@ -17,7 +17,7 @@ Adds before after text = OnOk after.grown (IsOk before.grown × (after.bytes.ite
 
 -- ---- the nearest name
 
--- the edit distance of two texts: the least number of characters to insert, delete or change
+-- the edit distance of two texts: the least number of characters to insert, delete or replace
 abbrev pub text_distance : List ℕ → List ℕ → ℕ
 text_distance text other = levenshtein_row nat_eq (chars text) (chars other) (length (chars other))
 
@@ -41,7 +41,7 @@ pub record IsNearestName (names : List (Option (List ℕ))) (text : List ℕ) (i
   pub least : (other : ℕ) → other < length names → distance_at names text index ≤ distance_at names text other
   pub first : (other : ℕ) → other < index → distance_at names text index < distance_at names text other
 
--- the name at index `index` is near the text: at most a third of its characters differ
+-- the edit distance of the text from the name at index `index` is at most a third of the name's length
 abbrev pub IsNearAt : List (Option (List ℕ)) → List ℕ → ℕ → Type 0
 IsNearAt names text index = (distance_at names text index < farthest)
     × IsNear (distance_at names text index) (unwrap_or (slice_index_or names index None) [])
@@ -64,7 +64,7 @@ present (Some name ∷ names) = name ∷ present names
 abbrev pub max_listed_names : ℕ
 max_listed_names = 20
 
--- a name in quotes, as it is shown
+-- a text in quotes: printable, and cut off if it is long
 abbrev pub quoted : List ℕ → List ℕ
 quoted name = codes "\"" ++ (printable_value name ++ codes "\"")
 

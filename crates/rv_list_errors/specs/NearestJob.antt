@@ -10,7 +10,7 @@ use Rattle.strsim.specs.Edits.{levenshtein_row}
 abbrev pub job_name : List Job → ℕ → List ℕ
 job_name jobs index = (slice_index_or jobs index (single_job [] 0 [])).name
 
--- the edit distance of a text from the name of the job at an index: the least number of characters to insert, delete or change
+-- the edit distance of a text from the name of the job at an index: the least number of characters to insert, delete or replace
 abbrev pub job_name_distance : List ℕ → List Job → ℕ → ℕ
 job_name_distance text jobs index =
     let name = job_name jobs index in
@@ -27,7 +27,8 @@ pub record IsJobNameSuggestion (jobs : List Job) (text : List ℕ) (index : ℕ)
 abbrev pub IsNear : ℕ → List ℕ → Type 0
 IsNear distance name = 3 * distance ≤ length name
 
--- the text is no longer than a name may be, and at most a third of the characters differ from the name of the job at index `index`
+-- the text is no longer than a name may be, and its edit distance from the name of the job at index `index` is at most a third of the
+-- name's length
 abbrev pub IsNearJob : List Job → List ℕ → ℕ → Type 0
 IsNearJob jobs text index =
     (length text ≤ max_name_len) × IsNear (job_name_distance text jobs index) (job_name jobs index)

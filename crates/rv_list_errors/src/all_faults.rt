@@ -17,9 +17,10 @@ use rv_lists::JobError;
 use rv_text::{Span, push_spans, push_text};
 use std::alloc::{AllocError, Global};
 
-/// Appends a line for each error of a list's jobs, with its line and column: the missing keys of a job where the job begins, and then its
-/// bad values in the order of its keys. `file` is the path of the list as the user wrote it, and `faults` are the errors that `read_faults`
-/// of `rv_lists` returns for its text, one for each bad job. The text is parsed again.
+/// Appends a line for each error of a list's jobs, with its line and column. For each bad job, the missing keys come first, located where the
+/// job begins, and then its bad keys and values, in the order of its keys. `file` is the path of the list as the user wrote it, and `faults`
+/// are the errors that `read_faults` of `rv_lists` returns for its text: one for each bad job, or one for the whole list. The text is parsed
+/// again; if it is not TOML, appends the line of this error.
 pub fn push_all_faults<'a>(
     alloc: Global,
     bytes: &mut Vec<u8>,
@@ -52,8 +53,8 @@ pub fn push_all_faults<'a>(
     }
 }
 
-// What the lines of errors are written from: the path of the list, the list as it was parsed again, the text from each job on, and a cursor
-// in its text.
+// The data from which the lines about errors are written: the path of the list, the list as it was parsed again, for each job the list's
+// text from the job on, and a cursor in the text.
 #[derive(Drop)]
 struct FaultLineWriter<'a> {
     file: &'a str,

@@ -18,7 +18,7 @@ use crate::values::{number_at_key, text_at_key, value_at_key, word_at_key};
 use rv_lists::limits::{MAX_CONSOLE_LEN, MAX_PATH_LEN};
 use toml::Table;
 
-/// Returns the explanation of a job's first bad expectation.
+/// Returns the explanation of a job's first bad expectation: of `expect_exit`, or else of `expect_signature`, or else of the others.
 pub(crate) fn expectation_explanation(table: &Table) -> Explanation
     ensures { IsExpectationExplanation (table_view table.now) (explained_key result, explained_text result) }
 {
@@ -52,7 +52,7 @@ fn reference_or_console_explanation(table: &Table) -> Explanation
     )
 }
 
-// Returns the explanation of a bad `expect_signature`, or `otherwise` if it is missing or good. `path` is its text, and `has_signature` is
+// Returns the explanation of a bad `expect_signature`, or `otherwise` if it is missing or good. `path` is its text, and `has_signature` says
 // whether the job has a signature.
 fn reference_explanation(
     has_signature: bool,
@@ -113,8 +113,8 @@ pub(crate) fn end_explanation(table: &Table) -> Explanation
     end_text_explanation(text_at_key(table, "expect_end"))
 }
 
-// Returns the explanation of a bad `expect_end`: for the text `exit`, that `expect_exit` is the key to use, and for another text or no
-// text, which texts are accepted.
+// Returns the explanation of a bad `expect_end`. For the text `exit`, it says that `expect_exit` is the key to use. For another text, or if
+// there is no text, it says which texts are accepted.
 fn end_text_explanation(end: Option<&str>) -> Explanation
     ensures { (explained_key result, explained_text result) ≡ end_explanation (borrowed_name end.entry) }
 {

@@ -34,22 +34,24 @@ pub(crate) struct Expected {
     bytes: Bytes,
 }
 
-/// The text that is inserted into what is expected.
+/// The text between the texts `before` and `behind` of an [`Expected`].
 #[derive(Clone, Copy)]
 enum InsertedText {
     Nothing,
-    /// The maximum.
+    /// The maximum of the value or of its length.
     Maximum(u64),
     /// The names of all kinds of faults.
     FaultKinds,
 }
 
-/// Whether and how the number of a text's bytes is shown if it exceeds the maximum.
+/// Which number of bytes is shown for a text if this number exceeds the maximum.
 #[derive(Clone, Copy)]
 enum Bytes {
+    /// No number.
     Untold,
+    /// The number of bytes of the text.
     Each,
-    /// Two characters are the digits of a byte.
+    /// Half the number of bytes of the text: two hexadecimal digits represent one byte.
     Pairs,
 }
 
@@ -245,7 +247,7 @@ fn push_expected(message: &mut Message, table: &Table, expected: &Expected)
     push_expected_text(message, reported_byte_count(table, expected), expected);
 }
 
-// Appends the number of bytes in parentheses, if it exceeds the maximum, and then the text that says what is expected of the value.
+// Appends ` (BYTES bytes)` if `bytes` exceeds the maximum in `expected`, and then the text that says what is expected of the value.
 fn push_expected_text(message: &mut Message, bytes: u64, expected: &Expected)
     ensures { Adds message.old message.new (bytes_text expected.now.rest bytes ++ (codes ": " ++ expected_text expected.now)) }
 {
@@ -256,7 +258,7 @@ fn push_expected_text(message: &mut Message, bytes: u64, expected: &Expected)
     message.push(expected.behind);
 }
 
-// Appends the number of bytes in parentheses, if it exceeds the maximum, or else nothing.
+// Appends ` (BYTES bytes)` if `inserted` is a maximum and `bytes` exceeds it, and otherwise nothing.
 fn push_byte_count(message: &mut Message, bytes: u64, inserted: InsertedText)
     ensures { Adds message.old message.new (bytes_text inserted bytes) }
 {
@@ -268,7 +270,7 @@ fn push_byte_count(message: &mut Message, bytes: u64, inserted: InsertedText)
     }
 }
 
-// Appends the text that completes what is expected of a value: nothing, a maximum, or the names of all kinds of faults.
+// Appends the inserted text of an explanation: nothing, a maximum, or the names of all kinds of faults.
 fn push_inserted_text(message: &mut Message, inserted: InsertedText)
     ensures { Adds message.old message.new (inserted_text inserted) }
 {
@@ -279,7 +281,7 @@ fn push_inserted_text(message: &mut Message, inserted: InsertedText)
     }
 }
 
-// Appends the names of all kinds of faults in quotes, as a sentence lists them.
+// Appends the names of all kinds of faults in quotes, separated by `, ` and, before the last one, by ` or `.
 fn push_fault_kinds(message: &mut Message)
     ensures { Adds message.old message.new (first_fault_kinds_text (length fault_kinds)) }
 {

@@ -22,7 +22,7 @@ use toml::de::Error;
 pub(crate) enum FaultView<'a> {
     /// The text is a TOML document.
     List(List<'a>),
-    /// The text is not a TOML document, for this reason.
+    /// The text, which is not a TOML document, and the reason for this.
     NoToml(&'a [u8], Error),
 }
 
@@ -63,8 +63,7 @@ pub(crate) fn list_fault_message(
     Ok(message)
 }
 
-// Appends the text between the path and the explanation of an error of the job with this number, as `push_location_in_list` does, or
-// nothing if the list is not TOML.
+// Appends the location of an error of the job with this number, as `push_location_in_list` does, or nothing if the list is not TOML.
 fn push_fault_location(
     message: &mut Vec<u8>,
     view: &FaultView<'_>,
@@ -78,8 +77,8 @@ fn push_fault_location(
     }
 }
 
-// Appends `: error: ` if the number is 0, which means the whole list, and otherwise the line on which the job with this number begins, its
-// number, and its name.
+// Appends `:LINE: error: job NUMBER "NAME": `, where the job with this number begins on line LINE. For the number 0, which means the whole
+// list, appends only `: error: `.
 fn push_location_in_list(message: &mut Vec<u8>, list: &List<'_>, job: u32) -> Result<(), AllocError>
     ensures { OnOk result (message.new.items ≡ message.old.items
         ++ fault_location list.now.lines.items (borrowed_names list.now.names.items) job) }
@@ -91,7 +90,7 @@ fn push_location_in_list(message: &mut Vec<u8>, list: &List<'_>, job: u32) -> Re
     }
 }
 
-// Appends the line on which the job with this number begins, its number, and its name if it has one.
+// Appends `:LINE: error: job NUMBER "NAME": `, where the job with this number begins on line LINE; without the name if the job has none.
 fn push_job_heading(message: &mut Vec<u8>, list: &List<'_>, number: u32) -> Result<(), AllocError>
     requires { 0 < number }
     ensures { OnOk result (message.new.items ≡ message.old.items
@@ -173,7 +172,7 @@ fn fault_explanation(
     }
 }
 
-// Returns the message why a text is not TOML, or that it is an ELF file, which cannot be TOML.
+// Returns the explanation of why a text is not TOML: it is an ELF file, or it has an error of syntax.
 fn not_toml_explanation(alloc: Global, text: &[u8], error: &Error) -> Result<Vec<u8>, AllocError>
     ensures { IfOk result (λ explanation. IsTrue (is_elf_file text.now) → explanation.items ≡ elf_file_text) }
 {

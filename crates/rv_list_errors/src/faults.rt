@@ -13,7 +13,7 @@ use rv_lists::JobError;
 use rv_text::{Span, push_spans};
 use std::alloc::{AllocError, Global};
 
-// The number of errors for which the nearest name or key is suggested. The search takes time in proportion to the number of names.
+// The nearest name or key is suggested for at most this many errors, because a search takes time in proportion to the number of names.
 const MAX_SUGGESTIONS: usize = 64;
 
 /// Appends a line for each error of a list, in order. `file` is the path of the list as the user wrote it, and `faults` are the errors that
@@ -26,7 +26,7 @@ pub fn push_faults(
     faults: &[JobError],
 ) -> Result<(), AllocError>
     ensures lines { OnOk result (AppendsLines (length faults.now) bytes.old.items bytes.new.items) }
-    // Each begins with the path and the job in error.
+    // Each line begins with the path, and the location of the error.
     ensures heads { OnOk result (AppendsFaultLines (fault_head file.now text.now) faults.now
         bytes.old.items bytes.new.items) }
     // The explanation of the error follows, based on the values of that job.
@@ -48,7 +48,7 @@ pub fn push_faults(
     }
 }
 
-// Appends a line for each error of a list whose text was parsed again.
+// Appends a line for each error of a list. `view` is the result of parsing its text again.
 fn push_fault_lines(
     alloc: Global,
     bytes: &mut Vec<u8>,
@@ -70,7 +70,7 @@ fn push_fault_lines(
     Ok(())
 }
 
-/// Returns `Nearest` for the first `MAX_SUGGESTIONS` errors, which suggest the nearest name or key, and `Nothing` for later errors.
+/// Returns which suggestion the error at an index gets: `Nearest` for the first `MAX_SUGGESTIONS` errors, and `Nothing` for later ones.
 pub(crate) fn suggestion_for_fault(index: usize) -> Suggestion {
     if index < MAX_SUGGESTIONS {
         Suggestion::Nearest

@@ -27,7 +27,7 @@ use crate::values::text_at_key;
 use rv_lists::What;
 use toml::{Table, Value};
 
-/// Appends the explanation of an error of the job at an index. The nearest job name is suggested if requested.
+/// Appends the explanation of an error of the job at an index, counted from 0. `suggestion` says whether the nearest job name is suggested.
 pub(crate) fn push_job_fault(
     message: &mut Message,
     list: &List<'_>,
@@ -88,7 +88,7 @@ fn push_fault_of_table(message: &mut Message, job: FaultyJob<'_>, kind: What)
     }
 }
 
-/// Appends that an earlier job has the name of the job.
+/// Appends the explanation of a job's `name` that an earlier job already has.
 pub(crate) fn push_duplicate_name(message: &mut Message, list: &List<'_>, table: &Table)
     ensures { AppendsTextThat message.old message.new
         (ExplainsName (borrowed_names list.now.names.items) (codes "name") unique_name_text (table_view table.now)) }
@@ -110,7 +110,7 @@ fn push_fault_within_job(message: &mut Message, table: &Table, kind: What)
     }
 }
 
-// Returns the explanation of an error of a single value.
+// Returns the explanation of a bad value with this error; if the error is not about a bad value, the explanation is only its name.
 fn key_explanation(table: &Table, kind: What) -> Explanation
     ensures words { IfSome (expected_of_error kind) (λ words. explained_text result ≡ words) }
     ensures key { IfSome (key_of kind) (λ key. explained_key result ≡ Some key) }
@@ -143,7 +143,7 @@ pub(crate) fn isa_explanation(table: &Table) -> Explanation
 }
 
 // Returns the explanation for an unknown `isa`. It lists the known sets. If the set is RV64, or if A, F or D is its first extension that is
-// not simulated, it says this first.
+// not simulated, the explanation begins with this reason.
 fn unknown_isa_explanation(isa: &[u8]) -> Explanation
     ensures key { explained_key result ≡ Some (codes "isa") }
     ensures words { explained_text result ≡ unknown_isa_text isa.now }
@@ -157,8 +157,8 @@ fn unknown_isa_explanation(isa: &[u8]) -> Explanation
     }
 }
 
-// Returns the explanation for an unknown `isa` with these letters after `rv32`. It lists the known sets. If the first extension that is not
-// simulated is A, F or D, it says this first.
+// Returns the explanation for an unknown `isa` with these letters after `rv32`. It lists the known sets. If A, F or D is the first extension
+// that is not simulated, the explanation begins with this reason.
 fn unknown_letters_explanation(letters: &[u8]) -> Explanation
     ensures key { explained_key result ≡ Some (codes "isa") }
     ensures words { explained_text result ≡ unknown_letters_text letters.now }
@@ -203,7 +203,7 @@ fn script_explanation(text: Option<&str>, digits: Option<&str>) -> Explanation
     }
 }
 
-// Returns the explanation of a bad `input_hex`: that it is too long, if it consists of digit pairs, or else that digit pairs are expected.
+// Returns the explanation of a bad `input_hex`: if it consists of pairs of hexadecimal digits, it is too long; otherwise, pairs are expected.
 fn digits_explanation(digits: &str) -> Explanation
     ensures { (explained_key result, explained_text result) ≡ script_explanation None (Some digits.now) }
 {

@@ -1,4 +1,4 @@
-//! The errors of single keys of a job, whatever its other keys are.
+//! The errors of a job's keys, one key at a time.
 
 ghost use Rattle.std.specs.Prelude.{◌<◌, IfSome};
 
@@ -69,7 +69,8 @@ pub(crate) struct FaultyJob<'a> {
     pub(crate) suggestion: Suggestion,
 }
 
-// The error of a key.
+// The error of a key. `WrongType` has the type that the key requires, and `Expected` explains a bad value. `NoEarlierJob` is an error of
+// `same_as`, and `NoMap` an error of `region`.
 #[derive(Clone, Copy)]
 enum KeyFault {
     Unknown,
@@ -82,8 +83,8 @@ enum KeyFault {
 }
 
 impl<'a> FaultyJob<'a> {
-    /// Appends the explanation of the error of a key, and returns whether it has one. If two keys cannot be used together, the error is
-    /// reported at the one that comes later.
+    /// If a key or its value has an error, appends the explanation and returns true; otherwise, returns false. If two keys cannot be used
+    /// together, the error is reported at the one that comes later. `earlier_keys` are the keys before this one in the job.
     pub(crate) fn push_key_fault(
         &self,
         message: &mut Message,
@@ -111,7 +112,7 @@ impl<'a> FaultyJob<'a> {
         true
     }
 
-    // Returns the error of a key, or `None` if it is valid. `earlier_keys` are the keys before it.
+    // Returns the error of a key or of its value, or `None` if there is none. `earlier_keys` are the keys before it in the job.
     fn key_fault(&self, key: &str, earlier_keys: &CheckedKeys<'_>) -> Option<KeyFault> {
         let Some(index) = index_of_key(key) else {
             return Some(KeyFault::Unknown);
@@ -132,7 +133,7 @@ impl<'a> FaultyJob<'a> {
         }
     }
 
-    // Returns the error of a value of the right type, or `None` if it is valid.
+    // Returns the error of a value that has the type its key requires, or `None` if the value is valid.
     fn value_fault(
         &self,
         kind: ValueType,
@@ -168,7 +169,7 @@ impl<'a> FaultyJob<'a> {
         }
     }
 
-    // Returns the error of the name of a job, or `None` if it is valid.
+    // Returns the error of the job's name, or `None` if it is valid.
     fn name_fault(&self, name: &str) -> Option<KeyFault> {
         if !is_name(name.as_bytes()) {
             Some(KeyFault::Expected(Explanation::Expected(&NAME)))
@@ -179,7 +180,7 @@ impl<'a> FaultyJob<'a> {
         }
     }
 
-    // Whether a name is valid, and an earlier job has it.
+    // Whether a text is a valid name that an earlier job has.
     fn is_earlier_job(&self, name: &str) -> bool {
         match self.list.job_number_of_name(Some(name)) {
             Some(number) => number <= self.job_index as u64 && is_name(name.as_bytes()),
@@ -209,8 +210,8 @@ impl<'a> FaultyJob<'a> {
         }
     }
 
-    // Returns `explanation`, the explanation that two keys cannot both be set, if the key `other` is in `earlier_keys`, the keys before
-    // this one, and has a text; otherwise `None`.
+    // Returns `explanation`, which says that this key and the key `other` cannot both be set, if `other` is one of the keys before this one
+    // and has a text; otherwise returns `None`.
     fn both_set_explanation(
         &self,
         other: &str,
@@ -267,7 +268,7 @@ impl<'a> FaultyJob<'a> {
         }
     }
 
-    // Returns the explanation of an invalid text at a key that accepts only a few texts, or `None` if it is valid.
+    // Returns the explanation of an invalid `load`, `misaligned`, `isa` or `expect_end`, or `None` if the text is valid or at any other key.
     fn choice_fault(&self, key: &str, text: &str) -> Option<Explanation> {
         match key {
             "load" if text != "physical" && text != "virtual" => Some(Explanation::Expected(&LOAD)),
@@ -281,7 +282,7 @@ impl<'a> FaultyJob<'a> {
     }
 }
 
-// Returns the explanation as the error of a key, or `None` if there is no explanation.
+// Returns the `KeyFault` with this explanation, or `None` if there is no explanation.
 fn wanted(told: Option<Explanation>) -> Option<KeyFault> {
     match told {
         Some(told) => Some(KeyFault::Expected(told)),

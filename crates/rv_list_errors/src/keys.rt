@@ -25,8 +25,8 @@ pub(crate) enum Owner {
     Region,
 }
 
-/// Returns the first key of a table that is not valid in `owner`, which is the whole list, a job or a region, or `None` if all keys are
-/// valid.
+/// Returns the first key of a table that is not valid there, or `None` if all keys are valid. `owner` says whether the table is the whole
+/// list, a job or a region.
 pub(crate) fn unknown_key(table: &Table, owner: Owner) -> Option<&str>
     ensures { option_map (λ key. key.now) result
         ≡ first_unknown_key (is_key_of_owner owner) (table_view table.now) }
@@ -93,8 +93,8 @@ pub(crate) fn push_unknown_key(message: &mut Message, key: &str)
     message.push_quoted(key);
 }
 
-/// Appends the first unknown key of a job, and the nearest known key, or all known keys if none is near. If only a region has an unknown
-/// key, appends that key and the known keys of regions.
+/// Appends the first unknown key of a job, and the nearest known key, or all known keys if none is near. If the job itself has no unknown
+/// key, appends the first unknown key of its regions, as [`push_unknown_region_key`] does.
 pub(crate) fn push_unknown_job_key(message: &mut Message, table: &Table)
     ensures { AppendsTextThat message.old message.new (ExplainsUnknownKey (table_view table.now)) }
 {
@@ -115,7 +115,7 @@ pub(crate) fn push_unknown_key_of_job(message: &mut Message, key: &str, suggesti
     }
 }
 
-// Appends the key of jobs that is nearest to a text, or all keys if none is near.
+// Appends the known key of jobs that is nearest to a text, or all known keys if none is near.
 fn push_nearest_key(message: &mut Message, text: &str)
     ensures { AppendsTextThat message.old message.new (BeginsWith []) }
 {
@@ -135,7 +135,7 @@ fn push_nearest_key(message: &mut Message, text: &str)
     }
 }
 
-/// Appends the first unknown key of a job's regions, and the known keys of regions.
+/// Appends the first unknown key of a job's regions, and the known keys of regions. If no region has an unknown key, appends `unknown key`.
 pub(crate) fn push_unknown_region_key(message: &mut Message, table: &Table)
     ensures { AppendsTextThat message.old message.new ExplainsUnknownRegionKey }
 {

@@ -1,8 +1,9 @@
 //! The messages on the errors of a rejected job list.
 //!
-//! [`push_faults`] appends a line for each error in the style of compilers: the file and the line where the job begins, the job's number
-//! and name, the key with its actual value, and what is expected instead. Contracts determine parts of the explanation after the job's
-//! name: keys with their values, limits, locations. [`near_job`] returns the job that is probably meant by an unknown name, if one is near.
+//! [`push_faults`] appends a line for each error, in the style of compilers: the path of the list, the line where the job begins, the job's
+//! number and name, the key with its actual value, and what is expected instead. The contracts determine only parts of the explanation after
+//! the job's name: keys with their values, limits and locations. [`near_job`] returns the job that is probably meant by an unknown name, if
+//! a job has a similar name.
 #![tactic(auto)]
 
 mod all_faults;

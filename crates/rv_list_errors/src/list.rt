@@ -1,4 +1,4 @@
-//! A list whose errors are reported, as it is found by parsing its text again.
+//! A list whose errors are reported: the result of parsing its text again.
 
 ghost use Rattle.std.specs.Prelude.{◌≡◌, ◌<◌, IfOk, IfSome, Some, length};
 ghost use Rattle.std.specs.List.{position};
@@ -18,18 +18,18 @@ use toml::{Table, Value};
 #[derive(Drop)]
 pub(crate) struct List<'a> {
     pub(crate) table: &'a Table,
-    /// The elements of `job`, or none if it is not an array.
+    /// The elements of `job`; empty if it is missing or not an array.
     pub(crate) jobs: &'a [Value],
-    /// The name of each element of `job`, if it is a table with a text at `name`.
+    /// For each element of `job`, its name, or `None` if it is not a table with a text at `name`.
     pub(crate) names: Vec<Option<&'a str>>,
-    /// The line on which each job begins.
+    /// The line on which each job begins, counted from 1.
     pub(crate) lines: Vec<usize>,
     /// The length of the list's text in bytes.
     pub(crate) len: usize,
 }
 
 impl<'a> List<'a> {
-    /// Returns the list with this text, whose table is the one that the text was parsed to.
+    /// Returns the list with this text. `table` is the table that the text was parsed into.
     pub(crate) fn from_table(
         alloc: Global,
         text: &[u8],

@@ -39,7 +39,8 @@ fn push_reason(message: &mut Message, reason: &str)
     message.push(reason);
 }
 
-/// Returns the duplicate key of a text if that is why it is not TOML, or else `None`.
+/// Returns the duplicate key of a text if this is why the text is not TOML. Returns `None` if there is another reason, or if the key is not
+/// found.
 pub(crate) fn repeated_key_of_error<'a>(
     alloc: Global,
     text: &'a [u8],
@@ -53,7 +54,7 @@ pub(crate) fn repeated_key_of_error<'a>(
     }
 }
 
-/// Appends the duplicate key of a text, with the line of its first occurrence if that was found.
+/// Appends the duplicate key of a text, and the line of its first occurrence, if this is known.
 pub(crate) fn push_repeated_key(message: &mut Message, text: &[u8], repeated: &RepeatedKey<'_>) {
     message.push(" \"");
     for part in &repeated.key.path {
@@ -92,7 +93,8 @@ fn push_not_an_array(message: &mut Message, table: &Table) {
     }
 }
 
-// Appends that a list has no jobs. A key other than `job` is reported too, since it may be meant.
+// Appends that a list has no jobs. If there are keys other than `job`, appends that the first one is unknown, and suggests `job` if that is
+// similar.
 fn push_no_jobs(message: &mut Message, table: &Table) {
     if value_at_key(table, "job").is_some() {
         push_expected_value(message, table, "job", "expected at least one [[job]] table");

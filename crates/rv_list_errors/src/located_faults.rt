@@ -23,9 +23,9 @@ pub(crate) struct LocatedFault {
     pub(crate) explanation: Vec<u8>,
 }
 
-/// Returns all errors of a bad job. If no error is found at one of its keys, returns only the error that is already known. If there are
-/// very many, returns the first ones, followed by a note that the later keys are not checked. `jobs` has, for each job, the list's text
-/// from the job on.
+/// Returns the errors of a bad job: its missing keys, and then its bad keys and values. If it has more than `MAX_FAULTS`, returns the first
+/// ones, followed by a note that the later keys are not checked. If no error is found at a key, returns only the error that is already known.
+/// `jobs` has, for each job, the list's text from the job on.
 pub(crate) fn faults_of_job(
     alloc: Global,
     list: &List<'_>,
@@ -82,8 +82,8 @@ impl<'a> FaultyJob<'a> {
         Ok(())
     }
 
-    // Adds to `faults` the error of each bad key, at its first occurrence. After `MAX_FAULTS` errors, adds a note that the later keys are
-    // not checked, and stops.
+    // Adds to `faults` the error of each bad key, at its first occurrence. If `faults` has `MAX_FAULTS` errors and another key follows, adds a
+    // note that the later keys are not checked, and stops.
     fn find_bad_keys(
         &self,
         alloc: Global,
@@ -123,7 +123,7 @@ impl<'a> FaultyJob<'a> {
         Ok(())
     }
 
-    // Adds to `faults` the error of a key or of its value, if it has one. `earlier_keys` are the keys before it.
+    // Adds to `faults` the error of a key or of its value, if it has one. `earlier_keys` are the keys before it in the job.
     fn find_key_fault(
         &self,
         alloc: Global,

@@ -82,7 +82,7 @@ impl Message {
         }
     }
 
-    /// Appends a value: a text in quotes, as [`push_printable`](Message::push_printable) shows it, or another value as in TOML.
+    /// Appends a value: a text in quotes, any other value in TOML notation. It is printable, and cut off if it is long.
     pub(crate) fn push_value(&mut self, value: &Value)
         ensures { AppendsTextThat self.old self.new (IsShownValue (view value.now)) }
     {
@@ -92,7 +92,7 @@ impl Message {
         }
     }
 
-    // Appends a value as TOML writes it, cut off if it is long.
+    // Appends a value in TOML notation: printable, and cut off if it is long.
     fn push_value_in_toml(&mut self, value: &Value)
         ensures { AppendsTextThat self.old self.new
             (λ shown. (text : List ℕ) × IsValueText false (view value.now) text × (shown ≡ printable_value text)) }
@@ -124,8 +124,8 @@ impl Message {
         }
     }
 
-    /// Returns the edit distance of two texts: the least number of characters to insert, delete or change. If an allocation fails, or has
-    /// failed before, returns `usize::MAX`.
+    /// Returns the edit distance of two texts: the least number of characters to insert, delete or replace. Returns `usize::MAX` if an
+    /// allocation fails, or if one failed earlier.
     pub(crate) fn edit_distance(&mut self, text: &str, other: &str) -> usize
         ensures distance { OnOk self.new.grown (IsOk self.old.grown × (result ≡ text_distance text.now other.now)) }
         ensures unchanged { self.new.bytes ≡ self.old.bytes }
@@ -143,7 +143,7 @@ impl Message {
     }
 }
 
-// Returns a value as TOML writes it to the right of `=`.
+// Returns a value in TOML notation, as it is written after `=`.
 fn value_in_toml(alloc: Global, value: &Value) -> Result<String, AllocError>
     ensures { IfOk result (λ text. IsValueText false (view value.now) (string_bytes text)) }
 {

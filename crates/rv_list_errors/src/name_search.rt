@@ -8,8 +8,9 @@ use rv_lists::limits::MAX_NAME_LEN;
 use std::alloc::{AllocError, Global};
 use strsim::levenshtein;
 
-/// Returns the index, counted from 0, of the job that the user probably meant by a text, or `None`: the first job with the nearest name, if
-/// at most a third of the characters of that name differ. A text longer than a name may be is near no name, which bounds the search time.
+/// Returns the index, counted from 0, of the job that the user probably meant by a text: the first one whose name is nearest to the text.
+/// Returns `None` if the edit distance is more than a third of this name's length, or if there are no jobs. It also returns `None` if the
+/// text is longer than a name may be, which bounds the search time.
 pub fn near_job(alloc: Global, jobs: &[Job], text: &str) -> Result<Option<usize>, AllocError>
     ensures { IfOk result (λ near. MatchOption near
         ((index : ℕ) → IsJobNameSuggestion jobs.now text.now index → IsNearJob jobs.now text.now index → ⊥)
@@ -24,7 +25,7 @@ pub fn near_job(alloc: Global, jobs: &[Job], text: &str) -> Result<Option<usize>
     }
 }
 
-// Whether a text is near the name of the job at an index: at most a third of the characters of that name differ.
+// Whether the edit distance of a text from the name of the job at an index is at most a third of the name's length.
 fn is_job_near(alloc: Global, jobs: &[Job], text: &str, index: usize) -> Result<bool, AllocError>
     requires { index < length jobs.now }
     ensures { IfOk result (λ near. IsTrue near
@@ -34,7 +35,7 @@ fn is_job_near(alloc: Global, jobs: &[Job], text: &str, index: usize) -> Result<
     Ok(is_near(distance, jobs[index].name.as_str()))
 }
 
-/// Whether an edit distance is at most a third of the name's length. A name is ASCII: a byte is a character.
+/// Whether an edit distance is at most a third of the name's length. Names are ASCII, so their length in bytes is the number of characters.
 pub(crate) fn is_near(distance: usize, name: &str) -> bool
     ensures { IsTrue result ↔ IsNear distance name.now }
 {

@@ -18,8 +18,8 @@ use crate::values::{push_key_and_value, text_at_key};
 use rv_lists::limits::MAX_NAME_LEN;
 use toml::Table;
 
-/// Appends a key for a name and its value, then `expected`, which says what is expected, and then the number of the first job with this
-/// name, if there is one.
+/// Appends a key whose value should be a name, and its value; then `expected`, the text that says what is expected; and then the number of
+/// the first job with this name, if there is one.
 pub(crate) fn push_name_fault(
     message: &mut Message,
     list: &List<'_>,
@@ -45,7 +45,7 @@ fn push_job_of_name(message: &mut Message, number: Option<u64>)
     }
 }
 
-/// Whether a name or key is suggested for an unknown one.
+/// Whether the nearest name or key is suggested for an unknown one.
 #[derive(Clone, Copy)]
 pub(crate) enum Suggestion {
     /// The nearest existing name. The search takes time in proportion to the number of names.
@@ -53,8 +53,8 @@ pub(crate) enum Suggestion {
     Nothing,
 }
 
-/// Appends that `same_as` of the job at an index is not the name of an earlier job. The nearest name of an earlier job, or all their names,
-/// are suggested if requested.
+/// Appends that `same_as` of the job at an index is not the name of an earlier job. If a suggestion is requested and no job has this name,
+/// appends the nearest name of an earlier job, or the names of all earlier jobs if none is near.
 pub(crate) fn push_unknown_same_as(
     message: &mut Message,
     list: &List<'_>,
@@ -83,8 +83,8 @@ pub(crate) fn push_unknown_same_as(
     }
 }
 
-// Appends the name of a job before an index that is nearest to an unknown name, or all names of these jobs if none is near. Appends nothing
-// if some job has the name.
+// Appends the name that is nearest to `name` among the jobs before index `job_index`, or all names of these jobs if none is near. Appends
+// nothing if some job has the name `name`, or if no job is before the index.
 fn push_nearest_job(message: &mut Message, list: &List<'_>, name: Option<&str>, job_index: usize)
     ensures { AppendsTextThat message.old message.new (BeginsWith []) }
 {
@@ -120,8 +120,8 @@ fn push_nearest_name(message: &mut Message, names: &[Option<&str>], text: &str)
     }
 }
 
-/// Returns the first of the names that are nearest to a text, if at most a third of its characters differ, or else `None`. A text longer
-/// than a name may be is near no name, which bounds the search time.
+/// Returns the name that is nearest to a text, the first one if there are several. Returns `None` if the edit distance is more than a third
+/// of the name's length, or if an allocation fails. A text longer than a name may be is near no name, which bounds the search time.
 pub(crate) fn near_name<'a>(
     message: &mut Message,
     names: &[Option<&'a str>],
@@ -160,7 +160,7 @@ fn name_if_near(name: &str, distance: usize) -> Option<&str>
 // The maximum number of names listed.
 const MAX_LISTED_NAMES: usize = 20;
 
-/// Appends the names that are not `None`, in quotes: only the first ones if there are many, and then how many more there are.
+/// Appends the names that are not `None` in quotes: at most the first `MAX_LISTED_NAMES` of them, and then how many more there are, if any.
 pub(crate) fn push_names(message: &mut Message, names: &[Option<&str>])
     ensures { Adds message.old message.new (names_text (present (borrowed_names names.now))) }
 {
@@ -191,7 +191,8 @@ fn push_first_names(message: &mut Message, names: &[Option<&str>], count: usize)
     listed_count
 }
 
-// Appends a name, if it exists and the maximum has not been reached, and returns how many have been appended.
+// Appends a name, if it exists and the maximum has not been reached. `listed_count` is the number of names appended before it. Returns the
+// number of names appended so far.
 fn push_next_name(
     message: &mut Message,
     name: Option<&str>,
@@ -209,7 +210,7 @@ fn push_next_name(
     }
 }
 
-// Appends a name unless the maximum has been reached, and returns how many have been appended.
+// Appends a name, unless `listed_count`, the number of names appended before it, is the maximum. Returns the number of names appended so far.
 fn push_name_if_listed(
     message: &mut Message,
     name: &str,
@@ -227,7 +228,7 @@ fn push_name_if_listed(
     listed_count + 1
 }
 
-// Appends the separator before the name at an index, and the name in quotes.
+// Appends the separator before the name at an index of `count` names, and the name in quotes.
 fn push_listed_name(message: &mut Message, name: &str, index: usize, count: usize)
     requires { index < max_listed_names }
     ensures { Adds message.old message.new (separator count index ++ quoted name.now) }

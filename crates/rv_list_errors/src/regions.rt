@@ -158,7 +158,7 @@ fn index_of_unaligned_region(regions: &[Region]) -> Option<usize>
         .position(|region| region.base % 4 != 0 || region.size % 4 != 0)
 }
 
-// Appends what is not a multiple of 4 in the region at an index: its base, or else its size.
+// Appends which value of the region at an index is not a multiple of 4: its base, or else its size.
 fn push_unaligned(message: &mut Message, index: usize, region: &Region)
     ensures { index + 1 < 2 ^ 64 → AppendsTextThat message.old message.new ExplainsRegions }
 {

@@ -1,4 +1,4 @@
-//! Values of another TOML type than their keys require.
+//! Values whose TOML type differs from the type that their keys require.
 
 ghost use Rattle.std.specs.Prelude.{◌≡◌, ◌+◌, ◌^◌, ◌<◌, IfSome, codes, is_some, length, map, not, option_map, true};
 ghost use Rattle.std.specs.List.{find, list_all, position};
@@ -18,7 +18,7 @@ use crate::values::{elements_at_key, push_expected_value, value_at_key};
 use rv_lists::{JOB_KEYS, ValueType};
 use toml::{Table, Value};
 
-/// Appends the first key of a job, in the order of the format, whose value has the wrong type, and the expected type.
+/// Appends the first key, in the order of `JOB_KEYS`, whose value in the job has the wrong type, with its value and the expected type.
 pub(crate) fn push_wrong_type(message: &mut Message, table: &Table)
     ensures { AppendsTextThat message.old message.new (ExplainsFirstWrongType (table_view table.now)) }
 {

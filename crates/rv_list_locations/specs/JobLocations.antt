@@ -78,8 +78,8 @@ unfoldable pub text_after_line : List ℕ → List ℕ
 text_after_line text = let rest = skip_ws text in
     if first rest == hash || first rest == line_feed || first rest == carriage_return then skip_blank rest else []
 
--- the text from the next element on, or from the bracket after the last element on; the comma in front of it, and blanks, line ends and
--- comments, are skipped
+-- the text from the next element on, or from the bracket after the last element on, given the text after an element: the comma, if there is
+-- one, and the blanks, line ends and comments around it are skipped
 unfoldable pub after_comma : List ℕ → List ℕ
 after_comma text = let rest = skip_blank text in if first rest == comma then skip_blank (drop 1 rest) else rest
 
@@ -147,7 +147,8 @@ step Table text = header_or_entry Table text
 
 -- ---- the list
 
--- for each job, the list's text from the job on, given the result of scanning the beginning of this text; `jobs` returns the later ones
+-- for each job, the list's text from the job on, given the result of scanning the header, entry or element with which this text begins;
+-- `jobs` returns the texts for the later jobs
 abbrev pub job_texts_of_step : (ScanState → List ℕ → List (List ℕ)) → List ℕ → Option Step → List (List ℕ)
 job_texts_of_step jobs text None = []
 job_texts_of_step jobs text (Some scanned) =

@@ -8,7 +8,7 @@ use Rattle.rv_list_locations.specs.declared.scan.Step as code
 use Rattle.rv_list_locations.specs.JobLocations.{Step}
 use Rattle.std.specs.Prelude.{Option}
 
--- the result is the expected remaining text, or an error if none is expected, or memory ran out
+-- the result is the expected remaining text, or an error if none is expected or if memory ran out
 abbrev pub ReturnsText : Result (Bor (List ℕ)) ParseError → Option (List ℕ) → Type 0
 ReturnsText result expected = Gives (λ rest. rest.now) result expected
 
@@ -16,7 +16,7 @@ ReturnsText result expected = Gives (λ rest. rest.now) result expected
 abbrev pub step_view : code.Step → Step
 step_view step = (step.is_job, step.next, step.rest.now)
 
--- the result is the expected header, entry or element, or an error if none is expected, or memory ran out
+-- the result is the expected header, entry or element, or an error if none is expected or if memory ran out
 abbrev pub GivesStep : Result code.Step ParseError → Option Step → Type 0
 GivesStep result expected = Gives step_view result expected
 

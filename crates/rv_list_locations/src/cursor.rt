@@ -5,7 +5,7 @@ ghost use Rattle.rv_list_locations.specs.LinesAndColumns.{column_at, line_at};
 
 use crate::lines::Location;
 
-/// An index of a text up to which lines and columns have been counted, so that each byte is counted once if indices are looked up in order.
+/// A position in a text, up to which lines and columns have been counted: each byte is counted once if indices are looked up in order.
 #[derive(Clone, Copy)]
 pub struct Cursor<'a> {
     text: &'a [u8],

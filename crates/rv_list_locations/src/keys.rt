@@ -13,7 +13,7 @@ use std::alloc::{AllocError, Global};
 use toml_parser::text::{byte_at, first, skip, skip_ws};
 use toml_parser::{Key, ParseError, dotted_key};
 
-/// A key of a job: its name, and the text from the key, or from the header of its table, on.
+/// A key of a job: its name, and the list's text from the key on, or from the header of its table on.
 #[derive(Drop)]
 pub struct JobKey<'a> {
     pub name: String,
@@ -31,7 +31,7 @@ pub(crate) enum KeyContext {
     Subtable,
 }
 
-/// A scanned entry or header of a job: the name of the job's key, if it has one, the context of what comes next, and the text after it.
+/// A scanned entry or header of a job: the name of the key that it sets, if any, the context of what comes next, and the text after it.
 #[derive(Drop)]
 pub(crate) struct KeyStep<'a> {
     pub(crate) name: Option<String>,
@@ -87,7 +87,7 @@ fn skip_job_start(alloc: Global, job: &str) -> Result<(KeyContext, &str), ParseE
     Ok((KeyContext::Table, step.rest))
 }
 
-/// Scans an entry or a header in the text of a job. Returns its name, if it has one, and the text after it.
+/// Scans an entry or a header in the text of a job. Returns the name of its key, if it has one, what comes next, and the text after it.
 pub(crate) fn scan_key_step(
     alloc: Global,
     text: &str,
@@ -150,8 +150,8 @@ fn scan_name(alloc: Global, text: &str) -> Result<(String, &str), ParseError>
     Ok((name, after_key))
 }
 
-// Scans a header after the beginning of a job. The header of another job or table ends the job; the header of a table in the job has the
-// part after `job` as its name.
+// Scans a header after the beginning of a job. The header of the next job ends the job: the returned text is empty. The header of a table in
+// the job has the part after `job` as its name, and any other header has no name.
 fn scan_inner_header(alloc: Global, text: &str) -> Result<KeyStep<'_>, ParseError>
     requires { slice_index text.now 0 ≡ left_bracket }
     ensures name { IfOk result (λ step. IfSome step.name (λ name. BeginsWithName (string_bytes name) text.now)) }
@@ -172,7 +172,7 @@ fn scan_inner_header(alloc: Global, text: &str) -> Result<KeyStep<'_>, ParseErro
     })
 }
 
-// Returns the part after `job` of a header's key, or `None` if the key does not begin with `job`.
+// Returns the part of a header's key after `job`, or `None` if the key does not begin with `job`.
 fn scan_table_name(alloc: Global, header: &str) -> Result<Option<String>, ParseError>
     requires { slice_index header.now 0 ≡ left_bracket }
     ensures { IfOk result (λ table_name. IfSome table_name (λ name. BeginsWithTable (string_bytes name) header.now)) }

@@ -13,8 +13,7 @@ use toml_parser::{Key, ParseError, dotted_key};
 #[derive(Drop)]
 pub struct RepeatedKey<'a> {
     pub key: Key,
-    /// The text from the key's first occurrence on, or `None` if none was found. The first occurrence of a table with a header is not
-    /// searched for.
+    /// The text from the key's first occurrence on, or `None` if it was not found. For the key of a header, it is not searched for.
     pub first: Option<&'a str>,
 }
 
@@ -25,8 +24,8 @@ struct Entries<'a> {
     context: KeyContext,
 }
 
-/// Returns the key that a text sets for the second time, which begins where `remaining` bytes of the text remain, or `None` if no key is
-/// found there.
+/// Returns the key that a text sets for the second time, or `None` if no such key is found. The second occurrence begins where `remaining`
+/// bytes of the text remain.
 pub fn repeated_key<'a>(
     alloc: Global,
     text: &'a str,
@@ -39,8 +38,8 @@ pub fn repeated_key<'a>(
     }
 }
 
-// Scans the text up to the header, entry or element at which `remaining` bytes of the text remain, and returns the key that is repeated
-// there, or `None` if there is none. The text has no byte order mark.
+// Scans the text up to the header, entry or element that contains the point where `remaining` bytes remain, and returns the key that is
+// repeated there, or `None` if there is none. The text has no byte order mark.
 fn find_repeated_key<'a>(
     alloc: Global,
     text: &'a str,

@@ -197,9 +197,9 @@ fn scan_table_header(alloc: Global, text: &str) -> Result<Step<'_>, ParseError>
     }
 }
 
-// Scans an entry, at which no job begins. If the entry is `job = [..]` and comes before the first header, the elements of the array are the
-// jobs: the first element comes next, and the returned text begins after the opening bracket. Otherwise, returns `state` as what comes
-// next, and the text after the entry.
+// Scans an entry `KEY = VALUE`. For `job = [..]` before the first header, scans only up to the first element: the elements are the jobs,
+// so the next state is `Element`. For any other entry, scans all of it, and the next state is `state` itself. The step's `is_job` is
+// always false, as an entry is not a job.
 #[tactic(auto, unfolding(crate::specs::JobLocations::keyed_entry))]
 fn scan_entry(alloc: Global, text: &str, state: ScanState) -> Result<Step<'_>, ParseError>
     ensures step { GivesStep result (spec.keyed_entry state text.now) }
@@ -266,7 +266,7 @@ fn skip_line_end(text: &str) -> &str
     }
 }
 
-// Scans a key, and returns whether it is `job`, and the text after it. The key is dropped here, so that no caller holds it at its exits.
+// Scans a key, and returns whether it is `job`, and the text after it. The key itself is dropped here, and not at each exit of a caller.
 fn scan_key(alloc: Global, text: &str) -> Result<(bool, &str), ParseError>
     ensures key { Reads (λ is_job. is_job) result
         (option_map (λ name. (spec.is_job name.0, name.1)) (key text.now)) }

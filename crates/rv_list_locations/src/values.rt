@@ -11,7 +11,7 @@ use toml_parser::bytes::is_word;
 use toml_parser::text::{byte_at, first, skip, skip_blank};
 use toml_parser::{ErrorKind, ParseError, quoted, starts_string};
 
-/// Returns the text after the value with which it begins.
+/// Skips the value with which a text begins, and returns the rest of the text, or an error if it begins with no value.
 #[tactic(auto, unfolding(crate::specs::JobLocations::after_value))]
 pub(crate) fn skip_value(alloc: Global, text: &str) -> Result<&str, ParseError>
     ensures value { ReturnsText result (after_value text.now) }
@@ -24,7 +24,7 @@ pub(crate) fn skip_value(alloc: Global, text: &str) -> Result<&str, ParseError>
     }
 }
 
-// Returns the text after the array or inline table with which it begins, whose brackets may be nested.
+// Skips the array or inline table with which a text begins, and returns the rest of the text. Brackets may be nested.
 fn skip_brackets(alloc: Global, text: &str) -> Result<&str, ParseError>
     ensures value { ReturnsText result (after_brackets (suc (length text.now)) 0 text.now) }
     ensures shorter { IfOk result (λ rest. length rest.now < length text.now) }
@@ -41,7 +41,7 @@ fn skip_brackets(alloc: Global, text: &str) -> Result<&str, ParseError>
     }
 }
 
-/// Returns the text after the blanks, line ends and comments with which it begins.
+/// Skips the blanks, line ends and comments with which a text begins, and returns the rest of the text.
 pub(crate) fn skip_blank_lines(text: &str) -> &str
     ensures rest { result.now ≡ behind_blank text.now }
     ensures within { length result.now ≤ length text.now }
@@ -60,7 +60,7 @@ fn bracket_depth_after(depth: usize, byte: u8) -> usize
     }
 }
 
-/// Returns the text after the punctuation sign, string or word with which it begins.
+/// Skips the punctuation sign, string or word with which a text begins, and returns the rest of the text, or an error if there is none.
 #[tactic(auto, unfolding(crate::specs::JobLocations::after_token))]
 pub(crate) fn skip_token(alloc: Global, text: &str) -> Result<&str, ParseError>
     ensures value { ReturnsText result (after_token text.now) }
@@ -73,7 +73,7 @@ pub(crate) fn skip_token(alloc: Global, text: &str) -> Result<&str, ParseError>
     }
 }
 
-// Returns the text after the string or word with which it begins.
+// Skips the string or word with which a text begins, and returns the rest of the text, or an error if there is none.
 #[tactic(auto, unfolding(crate::specs::JobLocations::after_string_or_word))]
 fn skip_string_or_word(alloc: Global, text: &str) -> Result<&str, ParseError>
     ensures value { ReturnsText result (after_string_or_word text.now) }
@@ -87,7 +87,8 @@ fn skip_string_or_word(alloc: Global, text: &str) -> Result<&str, ParseError>
     }
 }
 
-// Returns the text after the word with which it begins, which is an unquoted key or a value that is not a string.
+// Skips the word with which a text begins, and returns the rest of the text, or an error if there is none. A word is an unquoted key, or a
+// value that is not a string.
 fn skip_word(text: &str) -> Result<&str, ParseError>
     ensures value { ReturnsText result (after_word text.now) }
     ensures shorter { IfOk result (λ rest. length rest.now < length text.now) }

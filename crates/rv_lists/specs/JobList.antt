@@ -1,5 +1,5 @@
--- The job list that a document represents, or the job in error and its error: the keys of a job in the order in which their errors are
--- checked.
+-- The job list that a document represents, or its first error, with the number of the job. The keys of a job are in the order in which their
+-- errors are checked.
 use Rattle.std.specs.Prelude.{◌+◌, ◌==◌, ℕ, ℤ, pos, negsuc, Bool, true, false, not, ◌&&◌, ◌||◌}
 use Rattle.std.specs.Prelude.{List, [], ◌∷◌, ◌++◌, length, Option, Some, None, Result, Ok, Err}
 use Rattle.std.specs.Prelude.{codes, option_and_then, option_map, is_some, unwrap_or, if◌then◌else◌}
@@ -75,7 +75,7 @@ budget_from_table ms =
 abbrev pub script_from_bytes : List ℕ → Result (List ℕ) What
 script_from_bytes bytes = if nat_le (length bytes) max_script_len then Ok bytes else Err what.Input
 
--- the script that consists of decoded bytes, or an error if the digits were invalid or it is too long
+-- the script that consists of decoded bytes, or an error if the digits were invalid or the script is too long
 abbrev pub script_from_decoded : Result (List ℕ) FromHexError → Result (List ℕ) What
 script_from_decoded (Ok bytes) = script_from_bytes bytes
 script_from_decoded (Err e) = Err what.Input
@@ -122,11 +122,11 @@ abbrev pub regions_if_map : List Region → Option MapError → Result (List Reg
 regions_if_map regions None = Ok regions
 regions_if_map regions (Some e) = Err what.Region
 
--- the memory map that the elements of `region` form, or an error if one is invalid or they do not form one
+-- the memory map that the elements of `region` form, or an error if an element is invalid or they do not form a map
 unfoldable pub map_from_elements : Items → Result (List Region) What
 map_from_elements ds = regions_from_elements ds >>= (λ regions. regions_if_map regions (map_error regions))
 
--- the memory map of a job: the regions of `region`, or the default ones if there is no such key
+-- the memory map that the regions of a job's `region` form, or an error if they form none; without this key, the default map
 unfoldable pub map_from_table : Members → Result (List Region) What
 map_from_table ms = parsed_or_default map_from_elements default_regions (array_at_key (codes "region") ms)
 
@@ -175,12 +175,12 @@ exit_from_number z = number_or_fault 0 0xffff_ffff what.Expect z >>= (λ n. Ok (
 unfoldable pub exit_from_table : Members → Result (Option ℕ) What
 exit_from_table ms = parsed_or_default exit_from_number None (number_at_key (codes "expect_exit") ms)
 
--- the path of the expected signature, or an error if it is invalid or the job has no signature; `has_signature` is whether the job has one
+-- the path of the expected signature, or an error if it is invalid or the job has no signature; `has_signature` says whether the job has one
 abbrev pub reference_from_path : Bool → List ℕ → Result (Option (List ℕ)) What
 reference_from_path has_signature path = if has_signature && is_valid_path path then Ok (Some path) else Err what.Expect
 
 -- the path of the expected signature of a job, `None` if it expects none, or an error if the path is invalid or the job has no signature;
--- `has_signature` is whether it has one
+-- `has_signature` says whether it has one
 unfoldable pub reference_from_table : Bool → Members → Result (Option (List ℕ)) What
 reference_from_table has_signature ms = parsed_or_default (reference_from_path has_signature) None (text_at_key (codes "expect_signature") ms)
 
@@ -205,7 +205,7 @@ unfoldable pub console_from_table : Members → Result (Option ExpectedConsole) 
 console_from_table ms =
     console_from_either (text_at_key (codes "expect_console") ms) (text_at_key (codes "expect_console_file") ms)
 
--- the expected end by a fault of this kind, or an error if there is no such kind
+-- the expected end by a fault of this kind, or an error if no kind is given
 abbrev pub end_from_fault_kind : Option FaultKind → Result (Option ExpectedEnd) What
 end_from_fault_kind None = Err what.Expect
 end_from_fault_kind (Some kind) = Ok (Some (expected.Fault kind))
@@ -222,7 +222,7 @@ end_from_table ms = parsed_or_default end_from_text None (text_at_key (codes "ex
 abbrev pub names_of_jobs : List Job → List (List ℕ)
 names_of_jobs jobs = map (λ (j : Job). j.name) jobs
 
--- the index as the job of `same_as`, or an error if there is no index
+-- the index of the job that `same_as` names, or an error if no index is given
 abbrev pub same_as_from_index : Option ℕ → Result (Option ℕ) What
 same_as_from_index None = Err what.SameAs
 same_as_from_index (Some k) = Ok (Some k)
@@ -231,7 +231,7 @@ same_as_from_index (Some k) = Ok (Some k)
 abbrev pub same_as_from_name : List (List ℕ) → List ℕ → Result (Option ℕ) What
 same_as_from_name earlier t = same_as_from_index (index_in earlier t)
 
--- the index of the job that `same_as` of a job names, or `None` if there is no `same_as`; `earlier` are the names of the earlier jobs, and
+-- the index of the job that a job's `same_as` names, or `None` if there is no `same_as`; `earlier` are the names of the earlier jobs, and
 -- it is an error if none has the name
 unfoldable pub same_as_from_table : List (List ℕ) → Members → Result (Option ℕ) What
 same_as_from_table earlier ms = parsed_or_default (same_as_from_name earlier) None (text_at_key (codes "same_as") ms)
@@ -246,7 +246,7 @@ isa_from_text t = if bytes_eq t (codes "rv32i") then Ok isa.I
     else if bytes_eq t (codes "rv32imc") then Ok isa.Imc
     else Err what.Isa
 
--- the instruction set of a job; by default RV32IMC
+-- the instruction set of a job, or an error if its name is unknown; by default RV32IMC
 unfoldable pub isa_from_table : Members → Result Isa What
 isa_from_table ms = parsed_or_default isa_from_text isa.Imc (text_at_key (codes "isa") ms)
 
@@ -256,7 +256,7 @@ misaligned_from_text t = if bytes_eq t (codes "fault") then Ok Fault
     else if bytes_eq t (codes "allow") then Ok Allow
     else Err what.Misaligned
 
--- what misaligned accesses do in a job's run: they are faults, unless `misaligned` allows them
+-- what misaligned accesses do in a job's run, or an error if `misaligned` is invalid; they are faults, unless `misaligned` allows them
 unfoldable pub misaligned_from_table : Members → Result MisalignedPolicy What
 misaligned_from_table ms = parsed_or_default misaligned_from_text Fault (text_at_key (codes "misaligned") ms)
 
@@ -344,7 +344,7 @@ unfoldable pub jobs_of_document : Option Members → Result (List Job) JobError
 jobs_of_document None = Err (record { job = 0; what = what.NotToml })
 jobs_of_document (Some ms) = with_job_number 0 (job_elements ms) >>= jobs_of_elements 1 []
 
--- the TOML document that a text is, or `None` if it is not UTF-8 or not TOML
+-- the TOML document with this text, or `None` if the text is not UTF-8 or not TOML
 abbrev pub document_of : List ℕ → Option Members
 document_of bytes = if is_utf8 bytes then parse_document bytes else None
 

@@ -11,8 +11,8 @@ use Rattle.rv_lists.specs.JobList.{reference_from_table, console_from_table}
 use Rattle.rv_lists.specs.JobList.{end_from_table, same_as_from_table, isa_from_table, misaligned_from_table}
 use Rattle.rv_lists.specs.Parsing.{◌>>=◌}
 
--- the expected end, the job of `same_as`, the instruction set, and the treatment of misaligned accesses of a job, or the first error;
--- `earlier` are the names of the earlier jobs
+-- what the last four keys of a job say: its expected end, the index of its `same_as` job, its instruction set, and what misaligned accesses
+-- do; or the first error. `earlier` are the names of the earlier jobs
 unfoldable pub run_options_from_table : List (List ℕ) → Members → Result RunOptions What
 run_options_from_table earlier ms = do
   expect_end ← end_from_table ms
@@ -21,7 +21,7 @@ run_options_from_table earlier ms = do
   misaligned_policy ← misaligned_from_table ms
   Ok (record { expect_end = expect_end; same_as = same_as; isa = set; misaligned = misaligned_policy })
 
--- the script and the regions of a job, and whether its segments are loaded at their physical or virtual addresses, or the first error
+-- the script and the regions of a job, and whether its segments are loaded at their physical or virtual addresses; or the first error
 unfoldable pub setup_from_table : Members → Result Setup What
 setup_from_table ms = do
   script ← script_from_table ms
@@ -38,7 +38,7 @@ expected_results_from_table ms = do
   console ← console_from_table ms
   Ok (record { signature = signature; exit = exit; reference = reference; console = console })
 
--- the job with this name, image and budget, and with the values of a table's other keys, or the first error of these keys; `earlier` are
+-- the job with this name, image and budget, and with the values of a table's other keys; or the first error of these keys. `earlier` are
 -- the names of the earlier jobs
 unfoldable pub job_from_remaining_keys : List (List ℕ) → List ℕ → List ℕ → ℕ → Members → Result Job What
 job_from_remaining_keys earlier name image budget ms = do

@@ -98,7 +98,7 @@ fn add_element_or_fault(
     }
 }
 
-/// Returns the earlier jobs with one more job, which reserves the name of a bad element; unchanged if that name is invalid or already
+/// Returns the earlier jobs with one more job, which reserves the name of a bad element; unchanged if the name is missing, invalid or already
 /// reserved. The added job has default values.
 fn reserve_bad_job_name(
     alloc: Global,

@@ -16,9 +16,9 @@ pub enum What {
     NoJobs,
     /// There are more than 4,096 jobs.
     TooMany,
-    /// A key that the format does not have: next to `job`, in a job or in a region.
+    /// A key that the format does not have: at the top level, in a job or in a region.
     UnknownKey,
-    /// A value has another TOML kind than its key requires, including in a region or a signature; or an element of `job` is not a table.
+    /// A value has another TOML type than its key requires, including in a region or a signature; or an element of `job` is not a table.
     WrongType,
     /// `name` is missing, or is not 1 to 64 of the ASCII letters, digits, `.`, `_` and `-`.
     Name,

@@ -1,4 +1,4 @@
-//! What a job of a list expects of its row: the keys `expect_exit`, `expect_end`, `expect_console`, `expect_console_file` and
+//! What a job of a list expects of its run: the keys `expect_exit`, `expect_end`, `expect_console`, `expect_console_file` and
 //! `expect_signature`.
 
 ghost use Rattle.std.specs.Prelude.{◌≡◌};
@@ -17,7 +17,7 @@ use rv_machine::FaultKind;
 use std::alloc::Global;
 use toml::Table;
 
-/// Returns the expected exit code of a job, or `None` if it expects none. A code that does not fit in 32 bits is an error.
+/// Returns the expected exit code of a job, or `None` if it expects none. A code that is not from 0 to 2^32 - 1 is an error.
 #[tactic(auto, unfolding(crate::specs::JobList::exit_from_table))]
 pub(crate) fn exit_from_table(table: &Table) -> Result<Option<u32>, What>
     ensures { result ≡ exit_from_table (table_view table.now) }
@@ -34,8 +34,8 @@ pub(crate) fn exit_from_table(table: &Table) -> Result<Option<u32>, What>
     }
 }
 
-/// Returns the path of the expected signature of a job, or `None` if it expects none. `has_signature` is whether the job has a signature,
-/// without which the key is an error.
+/// Returns the path of the expected signature of a job, or `None` if it expects none. It is an error if the path is invalid, or if the job has
+/// no signature. `has_signature` says whether it has one.
 #[tactic(auto, unfolding(crate::specs::JobList::reference_from_table))]
 pub(crate) fn reference_from_table(
     alloc: Global,
@@ -56,7 +56,8 @@ pub(crate) fn reference_from_table(
     }
 }
 
-/// Returns the expected console of a job, or `None` if it expects none. It is an error if both keys are set or the value is invalid.
+/// Returns the expected console of a job, or `None` if it expects none. It is an error if `expect_console` and `expect_console_file` are both
+/// set, or if the value is invalid.
 #[tactic(auto, unfolding(crate::specs::JobList::console_from_table))]
 pub(crate) fn console_from_table(
     alloc: Global,

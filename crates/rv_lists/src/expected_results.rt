@@ -1,4 +1,4 @@
-//! What is collected from a job's run, and what is expected of it.
+//! The signature that is read at the end of a job's run, and the results that are expected of the run.
 
 ghost use Rattle.std.specs.Prelude.{◌≡◌, ◌<◌, IfOk, IfSome, length};
 ghost use Rattle.toml.specs.View.{table_view};

@@ -1,4 +1,4 @@
-//! A job of a list: its keys in the order in which their errors are checked, one function each.
+//! A job of a list, from the values of its keys. The functions for `name`, `image` and `budget` are in this file.
 
 ghost use Rattle.std.specs.Prelude.{◌≡◌, IfOk, None, length};
 ghost use Rattle.toml.specs.View.{view, table_view};

@@ -1,7 +1,7 @@
 //! Job lists: the jobs that a TOML text defines.
 //!
-//! [`read_jobs`] parses bytes as a [`JobList`], or returns the job in error and its error ([`JobError`], [`What`]); [`read_faults`] returns
-//! the first error of every bad job. Callers see a list of [`Job`]s, with one field for each key of the format.
+//! [`read_jobs`] parses bytes as a [`JobList`], or returns the first error ([`What`]) with the number of its job ([`JobError`]);
+//! [`read_faults`] returns the first error of every bad job. Callers see a list of [`Job`]s, with one field for each key of the format.
 #![tactic(auto)]
 
 mod all_faults;

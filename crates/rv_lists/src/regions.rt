@@ -13,8 +13,8 @@ use rv_machine::{Map, Region};
 use std::alloc::Global;
 use toml::{Table, Value};
 
-/// Returns the memory map of a job, or an error if its regions do not form one: the regions of `region`, or the default map if there is no
-/// such key.
+/// Returns the memory map that the regions of a job's `region` form, or an error if they form none. Without this key, returns the default
+/// map.
 #[tactic(auto, unfolding(crate::specs::JobList::map_from_table))]
 pub(crate) fn map_from_table(alloc: Global, table: &Table) -> Result<Map, What>
     ensures { MatchesUnlessOutOfMemory result (map_from_table (table_view table.now)) }
@@ -25,7 +25,7 @@ pub(crate) fn map_from_table(alloc: Global, table: &Table) -> Result<Map, What>
     }
 }
 
-// Returns the memory map that the elements of `region` form, or an error if one is invalid or they do not form one.
+// Returns the memory map that the elements of `region` form, or an error if an element is invalid or they do not form a map.
 #[tactic(auto, unfolding(crate::specs::JobList::map_from_elements))]
 fn map_from_elements(alloc: Global, elements: &[Value]) -> Result<Map, What>
     ensures { MatchesUnlessOutOfMemory result (map_from_elements (items_view elements.now)) }

@@ -23,8 +23,8 @@ pub(crate) struct RunOptions {
     pub(crate) misaligned: Misaligned,
 }
 
-/// Returns the expected end, the job of `same_as`, the instruction set, and the treatment of misaligned accesses of a job, or the first
-/// error. `earlier` are the jobs before it.
+/// Returns what the last four keys of a job say: its expected end, the index of its `same_as` job, its instruction set, and what misaligned
+/// accesses do; or the first error. `earlier` are the jobs before it.
 #[tactic(auto, unfolding(crate::specs::JobSteps::run_options_from_table))]
 pub(crate) fn run_options_from_table(
     earlier: &EarlierJobs,
@@ -46,7 +46,7 @@ pub(crate) fn run_options_from_table(
     })
 }
 
-// Returns the index of the job that `same_as` of a job names, or `None` if there is no `same_as`. It is an error if no earlier job has the
+// Returns the index of the job that a job's `same_as` names, or `None` if there is no `same_as`. It is an error if no earlier job has the
 // name.
 #[tactic(auto, unfolding(crate::specs::JobList::same_as_from_table))]
 fn same_as_from_table(earlier: &EarlierJobs, table: &Table) -> Result<Option<usize>, What>

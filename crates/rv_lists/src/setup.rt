@@ -28,7 +28,7 @@ pub(crate) struct Setup {
     pub(crate) load: LoadAt,
 }
 
-/// Returns the script and the regions of a job, and whether its segments are loaded at their physical or virtual addresses, or the first
+/// Returns the script and the regions of a job, and whether its segments are loaded at their physical or virtual addresses; or the first
 /// error.
 #[tactic(auto, unfolding(crate::specs::JobSteps::setup_from_table))]
 pub(crate) fn setup_from_table(alloc: Global, table: &Table) -> Result<Setup, What>

@@ -20,7 +20,7 @@ impl Hart {
         ensures unchanged { self.new ≡ self.old }
     {
         if length == 2 {
-            // x0 is 0 already: the store keeps the compiler from turning the branch into a select of a value.
+            // x0 is 0 already: the store keeps the compiler from replacing the branch by a conditional move.
             self.registers[0] = 0;
             return pc.wrapping_add(2);
         }

@@ -20,7 +20,8 @@ pub(crate) struct BufferRange {
 impl Map {
     /// Returns where the `len` bytes at an address are stored, or `None` if no region has all of them. `len` must not be 0.
     ///
-    /// Every access goes through here, so the first region is tried without a loop: most maps have only one.
+    /// Every fetch goes through here, and every load or store that [`Map::locate_in_first_region`] does not locate. Most maps have only one
+    /// region, so the first one is tried without a loop.
     #[inline]
     pub(crate) fn place(&self, addr: u32, len: u32) -> Option<BufferRange>
         requires { 0 < len }
@@ -77,7 +78,7 @@ fn search_regions(regions: &[Region], start: usize, addr: u32, len: u32) -> Opti
 
 impl Region {
     // Returns the offset of an address in the region; `None` if the region does not have all of the `len` bytes at the address. An address
-    // below the base wraps to an offset after every region's end.
+    // below the base wraps to an offset past the region's end.
     #[inline]
     fn offset_of(&self, addr: u32, len: u32) -> Option<u32>
         requires positive { 0 < len }

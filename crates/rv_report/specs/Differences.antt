@@ -43,18 +43,18 @@ can_begin_report_line word.Ended expected remaining = true
 
 -- ---- the first difference
 
--- the error at the first difference, if `remaining` differs from a text whose next byte is `expected`: this line; or `Truncated` if
--- `remaining` ends in this line, which can still be the beginning of a report's line
+-- the error at the first difference, where the bytes continue with `remaining`, and the text with the byte `expected`: `Truncated` if the
+-- bytes end in this line and it can still be the beginning of a report's line, and otherwise this line
 abbrev pub read_error_at : ℕ → FirstWordState → ℕ → List ℕ → ReadError
 read_error_at line word expected remaining =
     if can_begin_report_line word expected remaining && (line_feed_count remaining == 0) then Truncated else Line line
 
--- the number of the line after the byte `b`: one more if `b` is a line feed, and otherwise `line`
+-- the number of the line after the byte `b`: one more than `line` if `b` is a line feed, and otherwise `line`
 abbrev pub line_after_byte : ℕ → ℕ → ℕ
 line_after_byte line b = if b == 10 then line + 1 else line
 
--- the error at the first difference between the bytes and a text; before them, `line` was the number of the line, and `word` is how much of
--- its first word had been read
+-- the error at the first difference between the bytes and a text, both from some point of a line on; `line` is the number of this line, and
+-- `word` is how much of its first word was read before this point
 unfoldable pub read_error_from : ℕ → FirstWordState → List ℕ → List ℕ → ReadError
 read_error_from line word text [] = Truncated
 read_error_from line word [] (b ∷ bs) = Line line

@@ -123,7 +123,7 @@ abbrev pub refusal_or_default : Option Refusal → Refusal
 refusal_or_default (Some why) = why
 refusal_or_default None = refusal.ImageUnreadable
 
--- ---- the values of single lines; the byte that distinguishes a line from others decides how it is read
+-- ---- the values of single lines; the first byte in which valid lines differ decides how a line is read
 
 -- the job number in a line `job NUMBER NAME`
 abbrev pub job_number_of_line : List ℕ → ℕ
@@ -168,7 +168,7 @@ shard_of_text jobs text =
       stamp = name_or_dash (drop 6 (text_after_byte 32 shards));
     })
 
--- the extent that a line `part ROWS of JOBS` describes: chosen jobs, or a shard if the line continues with `shard SHARD/SHARDS stamp STAMP`
+-- the extent that a line `part ROWS of JOBS` describes: selected jobs, or a shard if the line continues with `shard SHARD/SHARDS stamp STAMP`
 unfoldable pub part_extent_of_line : List ℕ → Extent
 part_extent_of_line line =
     let jobs = drop 3 (text_after_byte 32 (drop 5 line)) in
@@ -309,7 +309,8 @@ unfoldable pub with_lines : List (List ℕ) → ReaderStateView → ReaderStateV
 with_lines [] state = state
 with_lines (line ∷ lines) state = with_lines lines (with_line line state)
 
--- the state after the unfinished row, if there is one, is finished with the verdict `none` and added to the rows
+-- the state after the unfinished row, if there is one, was completed with zeros as the missing words of its signature and with the verdict
+-- `none`, and was added to the rows
 unfoldable pub with_last_row_finished : ReaderStateView → ReaderStateView
 with_last_row_finished state =
     if state.is_in_row then with_finished_row verdict.Unasked (record state { words = padded_words state.count state.words }) else state
@@ -332,7 +333,8 @@ count_before_repeated_name earlier [] = 0
 count_before_repeated_name earlier (text ∷ texts) =
     if is_some (index_in earlier text) then 0 else count_before_repeated_name (earlier ++ text ∷ []) texts + 1
 
--- the extent `e` if it has these job numbers, and otherwise `Selection max_jobs`, which can have any increasing job numbers
+-- the extent `e` if a report with this extent can have these job numbers, and otherwise `Selection max_jobs`, which allows any increasing job
+-- numbers
 unfoldable pub extent_or_selection : Extent → List ℕ → Extent
 extent_or_selection e numbers = if matches_job_numbers e numbers then e else extent.Selection max_jobs
 

@@ -15,8 +15,8 @@ BeginsWith text beginning = (rest : List ℕ) × (text ≡ beginning ++ rest)
 abbrev pub complete_lines : List ℕ → List ℕ
 complete_lines bytes = first_lines (line_feed_count bytes) bytes
 
--- the report of chosen jobs with the first `count` rows; its list is taken to have `max_jobs` jobs, since a truncated report may not say
--- how many it has
+-- the report of selected jobs with the first `count` rows; it says that its list has `max_jobs` jobs, since a truncated report may not say how
+-- many there are
 abbrev pub first_rows : ℕ → SavedReport → SavedReport
 first_rows count report = record {
   extent = extent.Selection max_jobs;

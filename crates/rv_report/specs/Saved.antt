@@ -37,8 +37,8 @@ unfoldable pub is_valid_shard : Shard → Bool
 is_valid_shard s = nat_le 1 s.number && (nat_le s.number s.shards && (nat_le s.shards max_jobs
     && (nat_le s.jobs max_jobs && is_name s.stamp)))
 
--- whether a report with this extent can have these job numbers: all numbers of a whole list, increasing numbers of chosen jobs, or the
--- numbers of a shard
+-- whether a report with this extent can have these job numbers: 1, 2, 3 and so on for a whole list, increasing numbers for selected jobs, or the
+-- numbers of a shard's jobs
 unfoldable pub matches_job_numbers : Extent → List ℕ → Bool
 matches_job_numbers extent.Whole ns = are_evenly_spaced 1 1 (length ns) ns
 matches_job_numbers (extent.Selection jobs) ns = nat_le jobs max_jobs && are_increasing 0 jobs ns

@@ -12,8 +12,8 @@ use crate::saved::{Extent, Numbers, SavedReport};
 use rv_base::limits::MAX_JOBS;
 use std::alloc::{AllocError, Global};
 
-/// Reads as much of a report as any text contains: its rows up to the first line that cannot come next, but only those before the first
-/// whose job number does not increase or whose name is repeated.
+/// Reads a report from a text that need not be one: reads rows up to the first line that cannot come next, and returns the rows before the
+/// first one whose job number does not increase or whose name is repeated.
 #[tactic(auto, unfolding(crate::specs::LenientReport::lenient_report))]
 pub(crate) fn lenient_report(alloc: Global, text: &[u8]) -> Result<SavedReport, AllocError>
     ensures value { IfOk result (λ report. report ≡ lenient_report text.now) }
@@ -34,8 +34,8 @@ pub(crate) fn lenient_report(alloc: Global, text: &[u8]) -> Result<SavedReport, 
     })
 }
 
-// Returns the given extent if it has these job numbers, and otherwise `Extent::Selection(MAX_JOBS)`, which can have any increasing job
-// numbers.
+// Returns the given extent if a report with this extent can have these job numbers, and otherwise `Extent::Selection(MAX_JOBS)`, which
+// allows any increasing job numbers.
 #[tactic(auto, unfolding(crate::specs::LenientReport::extent_or_selection))]
 fn extent_or_selection(extent: Extent, numbers: &[u32]) -> Extent
     requires { length numbers.now ≤ max_jobs }

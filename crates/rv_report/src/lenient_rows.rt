@@ -41,7 +41,7 @@ pub struct ReaderState {
 /// Which line comes next.
 #[derive(Clone, Copy)]
 pub(crate) enum Stage {
-    /// The first line of a job, or the last line of all.
+    /// The first line of a job, or the last line of the report.
     BetweenRows,
     Ending,
     Steps,
@@ -112,7 +112,7 @@ fn read_line(alloc: Global, state: &mut ReaderState, line: &[u8]) -> Result<(), 
     }
 }
 
-// Reads a line between rows: the first line of a row, or the last line of the report.
+// Reads a line between rows: the first line of a row, or the last line of the report. Any other line, or a row too many, ends the reading.
 #[tactic(auto, unfolding(crate::specs::LenientReport::after_job_or_last_line))]
 fn read_job_or_last_line(
     alloc: Global,
@@ -177,7 +177,7 @@ fn read_console_line(alloc: Global, state: &mut ReaderState, line: &[u8]) -> Res
     Ok(())
 }
 
-// Reads the line that should have the number of words of a row's signature. Any other line ends the reading.
+// Reads the line that should have the number of words of a row's signature. Any other line, or a number above `MAX_WORDS`, ends the reading.
 #[tactic(auto, unfolding(crate::specs::LenientReport::after_signature_line))]
 fn read_signature_line(state: &mut ReaderState, line: &[u8])
     ensures { reader_state_view state.new ≡ after_signature_line line.now (reader_state_view state.old) }
@@ -213,7 +213,7 @@ fn read_word_or_verdict_line(
     }
 }
 
-// If there is an unfinished row, finishes it with the verdict `none` and adds it to the rows.
+// If there is an unfinished row, appends the missing words of its signature as zeros, gives it the verdict `none`, and adds it to the rows.
 #[tactic(auto, unfolding(crate::specs::LenientReport::with_last_row_finished))]
 fn finish_unfinished_row(alloc: Global, state: &mut ReaderState) -> Result<(), AllocError>
     ensures { OnOk result (reader_state_view state.new ≡ with_last_row_finished (reader_state_view state.old)) }
@@ -225,7 +225,7 @@ fn finish_unfinished_row(alloc: Global, state: &mut ReaderState) -> Result<(), A
     finish_row(alloc, state, Verdict::Unasked)
 }
 
-// Appends words 0 until there are `count` words.
+// Appends zeros until there are `count` words.
 #[tactic(auto, unfolding(crate::specs::LenientReport::padded_words))]
 fn pad_signature_words(words: &mut Vec<u32>, count: u32) -> Result<(), AllocError>
     ensures { OnOk result (words.new.items ≡ padded_words count words.old.items) }

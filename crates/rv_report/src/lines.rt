@@ -1,4 +1,4 @@
-//! The values of single lines of a report. Any line has some value: the byte that distinguishes a line from others decides how it is read.
+//! The values of single lines of a report. Any line has a value: the first byte in which valid lines differ decides how it is read.
 
 ghost use Rattle.std.specs.Prelude.{◌≡◌, IfOk, string_bytes};
 ghost use Rattle.rv_report.specs.LenientReport.{job_number_of_line, job_name_of_line, fault_or_default, refusal_or_default, fault_ending_of_text, row_ending_of_line};
@@ -75,8 +75,8 @@ pub(crate) fn verdict_of_line(line: &[u8]) -> Verdict
     }
 }
 
-/// Returns the extent that a last line `part ROWS of JOBS` describes: chosen jobs, or a shard if the line continues with `shard
-/// SHARD/SHARDS stamp STAMP`.
+/// Returns the extent that a last line `part ROWS of JOBS` describes: selected jobs, or a shard if the line continues with
+/// `shard SHARD/SHARDS stamp STAMP`.
 #[tactic(auto, unfolding(crate::specs::LenientReport::part_extent_of_line))]
 pub(crate) fn part_extent_of_line(alloc: Global, line: &[u8]) -> Result<Extent, AllocError>
     ensures { IfOk result (λ extent. extent ≡ part_extent_of_line line.now) }

@@ -18,7 +18,7 @@ use std::alloc::{AllocError, Global};
 /// A report that was read from a text that may be truncated.
 #[derive(Drop)]
 pub struct PartialReport {
-    /// The report with this text; or, if the text is truncated, its complete rows, as a report of chosen jobs.
+    /// The report with this text; or, if the text is truncated, its complete rows, as a report of selected jobs.
     pub report: SavedReport,
     /// Whether the text ends before its report does.
     pub is_truncated: bool,
@@ -50,7 +50,7 @@ pub fn read_partial_report(alloc: Global, bytes: &[u8]) -> Result<PartialReport,
     }
 }
 
-// Returns the complete rows of a truncated text, as a report of chosen jobs.
+// Returns the complete rows of a truncated text, as a report of selected jobs.
 fn read_complete_rows(alloc: Global, bytes: &[u8]) -> Result<SavedReport, AllocError>
     ensures rows { IfOk result (λ report. (count : ℕ) × (report ≡ first_rows count (lenient_report bytes.now))
         × (count ≤ length (lenient_report bytes.now).rows)
@@ -89,7 +89,7 @@ fn complete_row_count(
     Ok(rows.len())
 }
 
-// Returns the report of chosen jobs with the first `count` rows of a report. It says that its list has the maximum number of jobs, since a
+// Returns the report of selected jobs with the first `count` rows of a report. It says that its list has the maximum number of jobs, since a
 // truncated report may not say how many there are.
 fn first_rows(report: SavedReport, count: usize) -> SavedReport
     ensures { result ≡ first_rows count report }

@@ -23,10 +23,10 @@ pub enum ReadError {
     /// An allocation failed.
     #[error("out of memory")]
     OutOfMemory,
-    /// The first invalid line, counted from 1: some report begins with the lines before it, but none with these lines and this one.
+    /// The first invalid line, counted from 1: some report begins with the lines before it, but no report begins with these lines and this one.
     #[error("invalid line {0}")]
     Line(usize),
-    /// The text ends before its report does: its complete lines are those of some report, and the incomplete line after them may begin a
+    /// The text ends before its report does: its complete lines are the first lines of some report, and the incomplete line after them may begin a
     /// line of a report, judging by its first word.
     #[error("the report is truncated")]
     Truncated,
@@ -41,7 +41,7 @@ impl From<AllocError> for ReadError {
     }
 }
 
-/// Returns the report with this text, whether of a whole list, of chosen jobs or of a shard. The error is the first invalid line, or
+/// Returns the report with this text, whether of a whole list, of selected jobs or of a shard. The error is the first invalid line, or
 /// `Truncated`.
 ///
 /// Takes memory for the report's rows, and again for its text; if the text is not a report, for at most 4,096 rows and one more signature
@@ -55,7 +55,7 @@ pub fn read_report(alloc: Global, bytes: &[u8]) -> Result<SavedReport, ReadError
     // Up to the location in the error, the text agrees with the beginning of some report.
     ensures agrees { IfErr result (λ error. (report : Saved) × IsValidReport report
         × AgreeBeforeError error (saved_text report) bytes.now) }
-    // Some report begins with the lines before the one in the error, and none with these lines and it.
+    // If the error names a line, some report begins with the lines before it, but no report begins with these lines and that one.
     ensures first_error { IfErr result (λ error. IsFirstError error bytes.now) }
     // If a prefix of a report's text is rejected, the error is `Truncated`.
     ensures truncated { IsReportPrefix bytes.now → IfErr result (λ error. IsSameReadError error Truncated) }

@@ -1,4 +1,4 @@
-//! Reports in files: rows under the numbers of their jobs, and which jobs of a list they are.
+//! Reports in files: rows, the numbers of their jobs, and which jobs of a list the rows are for.
 
 ghost use Rattle.std.specs.Prelude.{◌≡◌, ◌≤◌, length};
 ghost use Rattle.rv_base.specs.Limits.{max_jobs};

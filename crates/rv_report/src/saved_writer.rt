@@ -15,7 +15,7 @@ use crate::saved_report_text::push_extent_line;
 use rv_base::Sink;
 use std::alloc::Global;
 
-/// Writes the text of a report to a sink, whether of a whole list, of chosen jobs or of a shard. If it fails, a prefix of the text has been
+/// Writes the text of a report to a sink, whether of a whole list, of selected jobs or of a shard. If it fails, a prefix of the text has been
 /// written. [`read_report`](crate::read_report) reads the text back.
 pub fn write_saved_report<W: Sink>(
     alloc: Global,

@@ -11,13 +11,13 @@ use Rattle.rv_report.specs.declared.row.RowEnd.TheVariants.{Exit, Fault, Budget,
 abbrev pub widened_job : Job → Job
 widened_job job = record job { isa = Imc }
 
--- the jobs, of which the one at the index has RV32IMC as its instruction set instead of its own
+-- the jobs, where the job at the index has RV32IMC instead of its own instruction set
 abbrev pub widened_jobs : ℕ → List Job → List Job
 widened_jobs index [] = []
 widened_jobs zero (job ∷ jobs) = widened_job job ∷ jobs
 widened_jobs (suc index) (job ∷ jobs) = job ∷ widened_jobs index jobs
 
--- the plan in which the job at the index has RV32IMC as its instruction set instead of its own
+-- the plan in which the job at the index has RV32IMC instead of its own instruction set
 abbrev pub widened_plan : ℕ → PlanView → PlanView
 widened_plan index plan = record plan { jobs = widened_jobs index plan.jobs }
 

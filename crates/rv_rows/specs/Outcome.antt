@@ -79,7 +79,7 @@ range_if_requested file regions (Some names) = do
   range ← signature_range file regions names
   Ok (Some range)
 
--- the image of a job's file and the range of its signature, if one is requested, or the first error: of the image, of the map, or of the
+-- the image of a job's file, and the range of its signature if one is requested; or the first error: of the image, of the map, or of the
 -- signature
 unfoldable pub loadable_image : Job → List ℕ → Result LoadableImage ImageError
 loadable_image job file = do
@@ -130,7 +130,8 @@ abbrev pub refusal_in : RowEnd → Option Refusal
 refusal_in (ending.Refused why) = Some why
 refusal_in _ = None
 
--- the outcome of a job with these bytes of its image, given its image and signature range, or the error for which it is refused
+-- the outcome of a job whose image's file has these bytes, given the result of `loadable_image`: the image and the signature's range, or the
+-- error because of which the job is refused
 abbrev pub outcome_if_loadable : Job → List ℕ → Result LoadableImage ImageError → Outcome
 outcome_if_loadable job file (Ok loadable) =
     outcome_of_run (run_of job.budget (loaded_state job file loadable.image)) loadable.range
@@ -151,7 +152,8 @@ outcome_of job image reference console = outcome_if_readable job (image_file_or_
 
 -- ---- the state in which a run begins
 
--- the state in which the run of a job begins, or the refusal, given the image and signature range, or their error
+-- the state in which the run of a job begins, or the refusal, given the bytes of its image's file and the result of `loadable_image`: the
+-- image and the signature's range, or an error
 abbrev pub start_if_loadable : Job → List ℕ → Result LoadableImage ImageError → Result State Refusal
 start_if_loadable job file (Ok loadable) = Ok (loaded_state job file loadable.image)
 start_if_loadable job file (Err why) = Err (refusal.Image why)

@@ -1,4 +1,4 @@
--- The outcomes of its last jobs that a worker caches.
+-- The cached outcomes of a worker's last jobs.
 use Rattle.std.specs.Prelude.{◌≡◌, ℕ, List, Option, Some, All, option_map, slice_get}
 use Rattle.rv_jobs.specs.Plans.{PlanView}
 use Rattle.rv_rows.specs.declared.outcome.Outcome.{Outcome}

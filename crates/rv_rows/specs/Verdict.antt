@@ -32,14 +32,14 @@ is_same_kind kind other = sameb the_type kind other
 
 -- ---- the exit code
 
--- whether a run ended with an exit with this code
+-- whether a run exited with this code
 abbrev pub exits_with : ℕ → RowEnd → Bool
 exits_with code (ending.Exit n) = n == code
 exits_with code (ending.Fault kind pc value) = false
 exits_with code ending.Budget = false
 exits_with code (ending.Refused why) = false
 
--- whether a run ended with an exit with the expected code; true if no code is expected
+-- whether a run exited with the expected code; true if no code is expected
 abbrev pub has_expected_exit : Option ℕ → RowEnd → Bool
 has_expected_exit None end = true
 has_expected_exit (Some code) end = exits_with code end
@@ -78,7 +78,7 @@ has_expected_console (Some (File path)) (Some bytes) outcome = ran_with_console 
 
 -- ---- the reference signature
 
--- a line for each word of a signature; empty if there is no signature
+-- the lines of a signature, one for each word; empty if there is no signature
 abbrev pub lines_of_signature : Option (List ℕ) → List ℕ
 lines_of_signature None = []
 lines_of_signature (Some words) = flat_map word_line words

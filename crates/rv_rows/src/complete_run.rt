@@ -33,7 +33,7 @@ pub struct PartialRun {
 }
 
 /// Returns the row of the job at an index, counted from 0, given the first part of its run. The row equals that of [`crate::row_at`], but
-/// only the rest of the run is executed. The job that its `same_as` names is run completely.
+/// only the rest of the run is executed. If `same_as` names another job, that job is run completely.
 pub fn row_from(alloc: Global, plan: &Plan, i: usize, run: PartialRun) -> Result<Row, AllocError>
     requires index { i < length plan.now.jobs }
     requires intermediate { (d : AJob) → let job = slice_index_or plan.now.jobs i d in
@@ -76,7 +76,7 @@ pub fn row_from_with_recent(
     row_with_verdict(alloc, plan, i, outcome, is_same)
 }
 
-// Completes the run of a job, unless it is refused, and returns the result.
+// Completes the run of the job at an index, unless the job is refused, and returns the result. `steps` steps have been executed.
 #[tactic(auto, unfolding(crate::specs::Outcome::outcome_of))]
 fn complete_run_of_job(
     alloc: Global,
@@ -125,7 +125,7 @@ fn complete_run_of_file(
     }
 }
 
-// Completes a run within a budget, of which `steps` steps have been executed, and returns the ended run.
+// Completes a run, of which `steps` steps have been executed, within its budget, and returns the ended run.
 fn complete_run(
     machine: Machine,
     steps: u32,

@@ -15,7 +15,7 @@ use std::alloc::{AllocError, Global};
 /// The size of the default map's region in bytes, the maximum size of a flat image.
 const MAX_IMAGE_SIZE: usize = 0x10_0000;
 
-/// The address of a flat image, which is its entry.
+/// The address of the first byte of a flat image, which is also its entry.
 const ENTRY: u32 = 0x8000_0000;
 
 /// Runs a flat image for at most `budget` steps, with the default map and an empty script, and returns its row. Its first byte is at

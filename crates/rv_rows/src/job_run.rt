@@ -79,8 +79,8 @@ fn refusal_of_image(alloc: Global, job: &Job, file: &[u8]) -> Result<Option<Refu
     }
 }
 
-/// Returns the machine in which a job runs, before its first step, given the bytes of its image and the image read from them, or the
-/// refusal. Runs nothing.
+/// Returns the machine in which a job runs, before its first step, or the refusal. `file` has the bytes of the job's image, and `image` is the
+/// image that was read from them. Runs nothing.
 pub(crate) fn machine_of_image(
     alloc: Global,
     job: &Job,
@@ -102,7 +102,7 @@ pub(crate) fn machine_of_image(
     }
 }
 
-// Returns a refusal if the job names a file with expected results that was not read.
+// Returns a refusal if a file with expected results was not read. `file` is `None` if the job names no such file.
 fn check_file_was_read(file: Option<&Kept>) -> Result<(), Refusal>
     ensures { MatchResult result
         (λ _. IsOk (reference_or_refusal (option_map (λ kept. kept.now) file.entry)))
@@ -141,7 +141,7 @@ pub(crate) fn run_image(
     }
 }
 
-/// Returns the image in the bytes of a file and the range of the job's signature, if one is requested, or the first error.
+/// Returns the image in the bytes of a file, and the range of the job's signature if one is requested; or the first error.
 #[tactic(auto, unfolding(crate::specs::Outcome::loadable_image))]
 pub(crate) fn loadable_image(
     alloc: Global,
@@ -158,7 +158,7 @@ pub(crate) fn loadable_image(
     Ok(LoadableImage { image, range })
 }
 
-// Checks that an image fits the job's map, and returns the range of the job's signature, if one is requested, or the first error.
+// Checks that an image fits the job's map. Returns the range of the job's signature if one is requested; or the first error.
 #[tactic(auto, unfolding(crate::specs::Outcome::loadable_image))]
 fn range_if_loadable(
     job: &Job,

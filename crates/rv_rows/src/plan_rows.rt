@@ -63,7 +63,7 @@ pub fn row_at_with_recent(
     row_with_verdict(alloc, plan, i, outcome, is_same)
 }
 
-/// Returns the row of the job at an index with this outcome. `is_same` says whether the outcome equals the outcome of the job that
+/// Returns the row of the job at an index, given its outcome. `is_same` says whether the outcome equals the outcome of the job that
 /// `same_as` names.
 #[tactic(auto, unfolding(crate::specs::Rows::row_of))]
 pub(crate) fn row_with_verdict(
@@ -245,7 +245,7 @@ pub(crate) fn cache_outcome_if_named(
     Ok(())
 }
 
-// Whether one of the `MAX_OUTCOMES` jobs after job `i` has it as its `same_as`.
+// Whether one of the `MAX_OUTCOMES` jobs after job `i` names it in its `same_as`.
 fn is_named_by_next_jobs(plan: &Plan, i: usize) -> bool
     requires { i < length plan.now.jobs }
 {

@@ -8,7 +8,7 @@ pub trait RowReporter {
     ghost use Rattle.std.specs.Prelude.{◌≡◌, ◌++◌, ℕ, List, OnOk};
     ghost use Rattle.rv_report.specs.declared.row.Row.{Row};
 
-    // The text for the job at an index and its row.
+    // The text about the job at an index, given its row.
     ghost line: { Self → ℕ → Row → List ℕ };
 
     /// Appends the text about the job at an index, given its row. The text may be empty.

@@ -58,7 +58,7 @@ pub fn has_expectations(job: &Job) -> bool
         || job.same_as.is_some()
 }
 
-/// Whether a run ended with an exit with the expected code; true if no code is expected.
+/// Whether a run exited with the expected code; true if no code is expected.
 pub fn has_expected_exit(expected: Option<u32>, ending: RowEnd) -> bool
     ensures { result ≡ has_expected_exit expected ending }
 {
@@ -68,7 +68,7 @@ pub fn has_expected_exit(expected: Option<u32>, ending: RowEnd) -> bool
     }
 }
 
-// Whether a run ended with an exit with this code.
+// Whether a run exited with this code.
 fn exits_with(code: u32, ending: RowEnd) -> bool
     ensures { result ≡ exits_with code ending }
 {
@@ -153,7 +153,7 @@ pub fn did_run(ending: RowEnd) -> bool
     !matches!(ending, RowEnd::Refused(_))
 }
 
-// Whether these bytes are a line for each word of the signature; without a signature, whether there are no bytes.
+// Whether these bytes are the lines of the signature, one for each word; without a signature, whether there are no bytes.
 fn are_signature_lines(bytes: &[u8], signature: &Option<Words>) -> bool
     ensures { result ≡ bytes_eq bytes.now (lines_of_signature signature.now) }
 {

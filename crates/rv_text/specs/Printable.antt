@@ -1,5 +1,5 @@
--- Text from files, as it is shown to a person: characters as they are; control and format characters, and bytes that are not part of a
--- character, byte by byte as a backslash, an x and two lower-case hexadecimal digits.
+-- Text from files, as it is shown to a person: characters are unchanged, but each byte of a control or format character, and each byte that
+-- is not part of a character, is replaced by a backslash, an x and two lower-case hexadecimal digits.
 use Rattle.std.specs.Prelude.{◌≡◌, ◌==◌, ◌&&◌, ◌||◌, ◌+◌, ◌-◌, ℕ, zero, suc, Bool, false, List, [], ◌∷◌, ◌++◌}
 use Rattle.std.specs.Prelude.{Option, Some, None, if◌then◌else◌, nat_lt, not, codes, drop, length, take, slice_get, slice_index}
 use Rattle.std.specs.Char.{is_control}

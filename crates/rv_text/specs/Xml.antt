@@ -1,5 +1,5 @@
--- Text as it is written in XML 1.0: its characters as they are, except those written as references; bytes that are not part of an XML
--- character, each as a backslash, an x and two lower-case hexadecimal digits.
+-- Text as it is written in XML 1.0: XML characters are unchanged or replaced by their references, and every other byte is replaced by a
+-- backslash, an x and two lower-case hexadecimal digits.
 use Rattle.std.specs.Prelude.{◌≡◌, ◌==◌, ◌||◌, ◌+◌, ◌-◌, ℕ, zero, suc, Bool, true, List, [], ◌∷◌, ◌++◌}
 use Rattle.std.specs.Prelude.{if◌then◌else◌, codes, drop, take, Option, Some, None, slice_get}
 use Rattle.std.specs.Prelude.{slice_index}

@@ -1,9 +1,9 @@
 //! Bytes as people and tools read them.
 //!
-//! [`push_spans`] builds a line from text, numbers, words, and text from files. [`push_printable_text`] shows the latter so that a terminal
-//! treats it as text: control characters and bytes that are not part of a character are written as `\xNN`. Whatever the bytes, the result
-//! is UTF-8 without control characters ([`printable_text_is_utf8_without_controls`]). [`push_xml_text`] appends bytes as text in XML 1.0:
-//! none of them is markup, and only XML characters are written ([`escaped_bytes_are_xml`]).
+//! [`push_spans`] builds a line from text, numbers, words, and text from files. [`push_printable_text`] shows text from files so that a
+//! terminal treats it as text: control and format characters, and bytes that are not part of a character, are written as `\xNN`. Whatever
+//! the bytes, the result is UTF-8 without control and format characters ([`printable_text_is_utf8_without_controls`]). [`push_xml_text`]
+//! appends bytes as text in XML 1.0: none of them is markup, and only XML characters are written ([`escaped_bytes_are_xml`]).
 #![tactic(auto)]
 
 mod law;

@@ -39,8 +39,8 @@ fn plural_ending(number: u64) -> &'static str
     if number == 1 { "" } else { "s" }
 }
 
-/// Appends an exit code in decimal; if its top bit is set, as a negative number followed by the unsigned one that lists use: `-1
-/// (4294967295)`.
+/// Appends an exit code in decimal; if its top bit is set, as a negative number followed by the unsigned one that lists use:
+/// `-1 (4294967295)`.
 #[tactic(auto, unfolding(crate::specs::Numbers::exit_code_text))]
 pub fn push_exit_code(bytes: &mut Vec<u8>, code: u32) -> Result<(), AllocError>
     ensures { OnOk result (bytes.new.items ≡ bytes.old.items ++ exit_code_text code) }
