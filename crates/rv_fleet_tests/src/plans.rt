@@ -79,7 +79,7 @@ fn plan_of_selection(
         return Err("a mark for each job".into());
     }
     let indices = selected_indices(alloc, selection)?;
-    Ok(gather_jobs(alloc, jobs, indices, store)?)
+    Ok(gather_jobs(alloc, jobs, indices.as_slice(), store)?)
 }
 
 // Returns the plan for all jobs of a list (`all`), or for the jobs that `choice` selects with `x`.

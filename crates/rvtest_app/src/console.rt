@@ -100,9 +100,8 @@ fn run_job_at<D: Inputs>(
     ensures status_bound { IfOk result (λ reported. reported.status ≤ 1) }
     ensures memory { IfErr result (λ stop. stop ≡ Stop.OutOfMemory) }
 {
-    let indices = vec![in alloc; index; 1]?;
     let mut store = RecordingStore::new(inputs, alloc, args.root);
-    let plan = gather_jobs(alloc, jobs, indices, &mut store)?;
+    let plan = gather_jobs(alloc, jobs, &[index], &mut store)?;
     run_planned_job(alloc, &plan, store.unreadable_paths(), index)
 }
 

@@ -70,10 +70,9 @@ fn explain_job_at<D: Inputs>(
     ensures status_bound { IfOk result (λ output. output.status ≤ 1) }
     ensures memory { IfErr result (λ stop. stop ≡ Stop.OutOfMemory) }
 {
-    let indices = vec![in alloc; index; 1]?;
     let jobs = jobs.with_budget(args.budget);
     let mut store = RecordingStore::new(inputs, alloc, args.root);
-    let plan = gather_jobs(alloc, jobs, indices, &mut store)?;
+    let plan = gather_jobs(alloc, jobs, &[index], &mut store)?;
     explain_planned_job(alloc, &plan, store.unreadable_paths(), index, args.last)
 }
 

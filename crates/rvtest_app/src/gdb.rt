@@ -160,9 +160,8 @@ fn session_of_job<D: Inputs>(
         named.jobs named.index) }
 {
     let NamedJob { jobs, index } = named;
-    let indices = vec![in alloc; index; 1]?;
     let mut store = RecordingStore::new(inputs, alloc, args.root);
-    let plan = gather_jobs(alloc, jobs, indices, &mut store)?;
+    let plan = gather_jobs(alloc, jobs, &[index], &mut store)?;
     match session_of_plan(alloc, &plan, index, args.root)? {
         Some(session) => {
             let unread = store.into_unreadable_paths();
