@@ -62,22 +62,25 @@ pub returns-clause-paths : goal.returns-clause-paths
 returns-clause-paths g c =
     let used = c.loop-index.invariant.paths
     ∙ needed_whole c.args.jobs c.args.indices.now c.loop-index.index-index (omega arith) in
-    ap paths_of (parts_whole c.loop-index.path_results (paths_used (jobs_needed_for c.args.jobs c.args.indices.now))
-    c.into_results-results.result.items used c.into_results-results.ensures) ∙ used
+    let used_by_chosen = used ∙ ap (λ indices. paths_used (jobs_needed_for c.args.jobs indices)) (sym c.in_ok-chosen.ensures.items) in
+    ap paths_of (parts_whole c.loop-index.path_results (paths_used (jobs_needed_for c.args.jobs c.in_ok-chosen.chosen.items))
+    c.into_results-results.result.items used_by_chosen c.into_results-results.ensures) ∙ used
 
 pub returns-clause-agree : goal.returns-clause-agree
 returns-clause-agree g c =
     let used = c.loop-index.invariant.paths
     ∙ needed_whole c.args.jobs c.args.indices.now c.loop-index.index-index (omega arith) in
-    let same = parts_whole c.loop-index.path_results (paths_used (jobs_needed_for c.args.jobs c.args.indices.now))
-    c.into_results-results.result.items used c.into_results-results.ensures in
+    let used_by_chosen = used ∙ ap (λ indices. paths_used (jobs_needed_for c.args.jobs indices)) (sym c.in_ok-chosen.ensures.items) in
+    let same = parts_whole c.loop-index.path_results (paths_used (jobs_needed_for c.args.jobs c.in_ok-chosen.chosen.items))
+    c.into_results-results.result.items used_by_chosen c.into_results-results.ensures in
     subst (AgreeWithContents (g.S.Store.contents c.args.store.now)) (sym same) c.loop-index.invariant.kept
 
 pub returns-clause-faults : goal.returns-clause-faults
 returns-clause-faults g c =
     let used = c.loop-index.invariant.paths
     ∙ needed_whole c.args.jobs c.args.indices.now c.loop-index.index-index (omega arith) in
-    let same = parts_whole c.loop-index.path_results (paths_used (jobs_needed_for c.args.jobs c.args.indices.now))
-    c.into_results-results.result.items used c.into_results-results.ensures in
+    let used_by_chosen = used ∙ ap (λ indices. paths_used (jobs_needed_for c.args.jobs indices)) (sym c.in_ok-chosen.ensures.items) in
+    let same = parts_whole c.loop-index.path_results (paths_used (jobs_needed_for c.args.jobs c.in_ok-chosen.chosen.items))
+    c.into_results-results.result.items used_by_chosen c.into_results-results.ensures in
     c.loop-index.invariant.faults
     ∙ ap (λ (a : List PathResult). after_increments (g.S.Store.fault_count c.args.store.now) (unreadable_count a)) (sym same)
