@@ -1,7 +1,7 @@
 //! A line of a console, shown around its first difference from the expected line.
 
-ghost use Rattle.std.specs.Prelude.{◌≡◌, ◌≤◌, ◌++◌, OnOk, length, nat_eq};
-ghost use Rattle.std.specs.List.{common_prefix_len, position_or_len};
+ghost use Rattle.std.specs.Prelude.{◌≡◌, ◌≤◌, ◌++◌, OnOk, length};
+ghost use Rattle.std.specs.List.{position_or_len};
 ghost use Rattle.rv_job_text.specs.ConsoleLines.{begins_character, characters_len, missing_newline_note, shown_offset, shown_line, diff_line};
 ghost use Rattle.rv_job_text.specs.ConsoleLines.{text_shown_from};
 ghost use Rattle.rv_job_text.specs.ConsoleTail.{is_line_feed};
