@@ -5,12 +5,12 @@ use Rattle.rvtest_app.proofs.console.run_named_job.Goals as goal
 
 pub returns-clause-reported : goal.returns-clause-reported
 returns-clause-reported g c = IfOk-map c.run_job_at.result _ _ (λ reported is. record {
-  jobs = c.in_ok-read_named_job.jobs;
-  index = c.in_ok-read_named_job.index;
-  named = c.in_ok-read_named_job.ensures.named;
+  jobs = c.in_ok-jobs.jobs;
+  index = c.in_ok-jobs.index;
+  named = c.in_ok-jobs.ensures.named;
   of_job = is;
 }) c.run_job_at.ensures.reported
 
 pub returns-clause-stopped : goal.returns-clause-stopped
 returns-clause-stopped g c =
-    IfErr-map c.run_job_at.result _ _ (λ stop is. inl (inl is)) c.run_job_at.ensures.memory
+    IfErr-map c.run_job_at.result _ _ (λ stop is. inl (inl (inl is))) c.run_job_at.ensures.memory

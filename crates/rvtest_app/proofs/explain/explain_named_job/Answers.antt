@@ -5,12 +5,12 @@ use Rattle.rvtest_app.proofs.explain.explain_named_job.Goals as goal
 
 pub returns-clause-explained : goal.returns-clause-explained
 returns-clause-explained g c = IfOk-map c.explain_job_at.result _ _ (λ output is. record {
-  jobs = c.in_ok-read_named_job.jobs;
-  index = c.in_ok-read_named_job.index;
-  named = c.in_ok-read_named_job.ensures.named;
+  jobs = c.in_ok-jobs.jobs;
+  index = c.in_ok-jobs.index;
+  named = c.in_ok-jobs.ensures.named;
   explained = is;
 }) c.explain_job_at.ensures.explained
 
 pub returns-clause-stopped : goal.returns-clause-stopped
 returns-clause-stopped g c =
-    IfErr-map c.explain_job_at.result _ _ (λ stop is. inl (inl is)) c.explain_job_at.ensures.memory
+    IfErr-map c.explain_job_at.result _ _ (λ stop is. inl (inl (inl is))) c.explain_job_at.ensures.memory

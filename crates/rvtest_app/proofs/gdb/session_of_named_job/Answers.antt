@@ -20,7 +20,7 @@ returns-clause-opened g c = IfOk-map c.session_of_job.result _ _ (λ opened is. 
 pub returns-clause-stopped : goal.returns-clause-stopped
 returns-clause-stopped g c =
     IfErr-map c.session_of_job.result _ _
-    (λ stop. ⊎_elim (λ memory. inl (inl (inl memory)))
+    (λ stop. ⊎_elim (λ memory. inl (inl (inl (inl memory))))
     (λ refused. inr (record {
       jobs = c.in_ok-named.named.jobs;
       index = c.in_ok-named.named.index;

@@ -16,8 +16,8 @@ returns-in-Some-clause-named g c = record {
   first = rw c.as_slice-2.ensures.value at (sym c.named_job_index.ensures.named ∙ c.in-Some.is);
 }
 
-pub returns-in-None-clause-stopped : goal.returns-in-None-clause-stopped
-returns-in-None-clause-stopped g c =
+pub returns-clause-stopped : goal.returns-clause-stopped
+returns-clause-stopped g c =
     let unknown = rw c.as_slice-in-None.ensures.value at c.unknown_name_stop.ensures in
     inr (c.in_ok-text.text.items, (
       c.in_ok-text.ensures.read,
