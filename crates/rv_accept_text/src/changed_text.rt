@@ -1,11 +1,10 @@
 //! Where a text and its replacement first differ.
 
-ghost use Rattle.std.specs.Prelude.{◌≡◌, ◌++◌, OnOk, nat_eq};
-ghost use Rattle.std.specs.List.{common_prefix_len};
+ghost use Rattle.std.specs.Prelude.{◌≡◌, ◌++◌, OnOk};
 ghost use Rattle.rv_rows.specs.Spans.{span_text};
 ghost use Rattle.rv_accept_text.specs.ChangedTexts.{byte_change, byte_difference, digits_at, text_change, values_from, values_of_both, word_change, word_change_at};
 
-use rv_job_text::push_console_lines;
+use rv_job_text::{common_prefix_len, push_console_lines};
 use rv_rows::{Span, WORD_LINE_LEN, is_utf8, push_spans, push_text, tail_from};
 use std::alloc::AllocError;
 
@@ -136,15 +135,4 @@ fn digits_at(rest: &[u8]) -> &[u8]
     } else {
         &rest[..rest.len().min(WORD_LINE_LEN - 1)]
     }
-}
-
-// Returns the number of equal leading bytes of two texts.
-fn common_prefix_len(text: &[u8], other: &[u8]) -> usize
-    ensures { result ≡ common_prefix_len nat_eq text.now other.now }
-{
-    let mut len = 0;
-    while len < text.len() && len < other.len() && text[len] == other[len] {
-        len += 1;
-    }
-    len
 }

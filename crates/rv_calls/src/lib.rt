@@ -21,6 +21,6 @@ pub use transfer::{Transfer, next_transfer, transfer_by};
 
 // Re-exports from lower crates: the types in this interface, and what its callers need with them.
 pub use rv_trace::{
-    Bus, ElfFile, Isa, JobImage, Machine, Map, Misaligned, Region, image_bytes, machine_at,
-    push_trace, trace_job,
+    Bus, ElfFile, Isa, JobImage, Machine, Map, Misaligned, Region, image_bytes, image_of_bytes,
+    machine_at, push_trace, trace_job,
 };

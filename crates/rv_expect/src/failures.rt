@@ -84,10 +84,11 @@ fn failure_in_plan(
 ) -> Result<Option<FailureKind>, AllocError>
     ensures { IfOk result (λ failure. failure ≡ failure_in_plan (judge_view judge.now) plan.now index row.now) }
 {
-    if !judge.fails(row) {
+    let judgement = judge.judgement(row);
+    if !judgement.is_failing() {
         return Ok(None);
     }
-    if !judge.judgement(row).is_unknown_failure() || index >= plan.jobs() {
+    if !judgement.is_unknown_failure() || index >= plan.jobs() {
         return Ok(Some(FailureKind::of_end(row.ending)));
     }
     let kind = failure_kind_of_job(alloc, plan, index, row)?;

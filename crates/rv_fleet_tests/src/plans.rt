@@ -79,7 +79,7 @@ fn plan_of_selection(
         return Err("expected one letter for each job".into());
     }
     let indices = selected_indices(alloc, selection)?;
-    Ok(gather_jobs(alloc, jobs, indices, store)?)
+    Ok(gather_jobs(alloc, jobs, indices.as_slice(), store)?)
 }
 
 // Returns the plan for all jobs of a list if `choice` is `all`, and otherwise for the jobs that have an `x` in `choice`.

@@ -6,8 +6,8 @@ ghost use Rattle.rv_rows.specs.Plans.{result_or_unreadable};
 ghost use Rattle.rv_rows.specs.Rows.{content_if_read, image_if_read};
 ghost use Rattle.rv_calls.specs.Trace.{job_at};
 
-use rv_calls::{ElfFile, image_bytes};
-use rv_rows::{Image, ImageError, Isa, Plan, read_image};
+use rv_calls::{ElfFile, image_bytes, image_of_bytes};
+use rv_rows::{Image, Isa, Plan};
 use std::alloc::{AllocError, Global};
 
 /// The bytes of a job's image file, if they were read, and the image, if the bytes are a valid one.
@@ -63,12 +63,8 @@ impl<'a> JobFile<'a> {
 fn image_if_read(alloc: Global, isa: Isa, bytes: Option<&[u8]>) -> Result<Option<Image>, AllocError>
     ensures { IfOk result (λ image. image ≡ image_if_read isa (option_map (λ bytes. bytes.now) bytes.entry)) }
 {
-    let Some(bytes) = bytes else {
-        return Ok(None);
-    };
-    match read_image(alloc, bytes, isa) {
-        Ok(image) => Ok(Some(image)),
-        Err(ImageError::OutOfMemory) => Err(AllocError),
-        Err(_) => Ok(None),
+    match bytes {
+        Some(bytes) => image_of_bytes(alloc, isa, bytes),
+        None => Ok(None),
     }
 }

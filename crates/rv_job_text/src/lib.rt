@@ -50,4 +50,6 @@ pub use verbosity::Verbosity;
 // Re-exports from lower crates: the types in this interface, and what its callers need with them.
 pub use rv_expect::{Judge, Judgement, is_error, is_failure};
 pub use rv_rows::{RowReporter, did_run};
-pub use rv_text::{Span, XmlContext, push_spans, push_text, push_xml_text, text_of_spans};
+pub use rv_text::{
+    Span, XmlContext, common_prefix_len, push_spans, push_text, push_xml_text, text_of_spans,
+};

@@ -1,13 +1,13 @@
 //! A line of a console, shown around its first difference from the expected line.
 
-ghost use Rattle.std.specs.Prelude.{◌≡◌, ◌≤◌, ◌++◌, OnOk, length, nat_eq};
-ghost use Rattle.std.specs.List.{common_prefix_len, position_or_len};
+ghost use Rattle.std.specs.Prelude.{◌≡◌, ◌≤◌, ◌++◌, OnOk, length};
+ghost use Rattle.std.specs.List.{position_or_len};
 ghost use Rattle.rv_job_text.specs.ConsoleLines.{begins_character, characters_len, missing_newline_note, shown_offset, shown_line, diff_line};
 ghost use Rattle.rv_job_text.specs.ConsoleLines.{text_shown_from};
 ghost use Rattle.rv_job_text.specs.ConsoleTail.{is_line_feed};
 
 use crate::complete_lines::first_line_feed;
-use rv_text::{push_printable_text, push_text, tail_from};
+use rv_text::{common_prefix_len, push_printable_text, push_text, tail_from};
 use std::alloc::AllocError;
 
 /// The maximum number of characters that are shown of a line.
@@ -29,7 +29,7 @@ pub(crate) fn push_diff_line(
 {
     let feed = first_line_feed(own);
     push_text(bytes, margin)?;
-    push_shown_line(bytes, equal_prefix_len(own, other), &own[..feed])?;
+    push_shown_line(bytes, common_prefix_len(own, other), &own[..feed])?;
     push_text(bytes, "\n")?;
     push_missing_newline_note(bytes, own, feed)
 }
@@ -116,15 +116,4 @@ fn begins_character(byte: u8) -> bool
     ensures { result ≡ begins_character byte }
 {
     byte < 0x80 || 0xC0 <= byte
-}
-
-// Returns the number of equal leading bytes of two texts.
-fn equal_prefix_len(own: &[u8], other: &[u8]) -> usize
-    ensures { result ≡ common_prefix_len nat_eq own.now other.now }
-{
-    let mut len = 0;
-    while len < own.len() && len < other.len() && own[len] == other[len] {
-        len += 1;
-    }
-    len
 }

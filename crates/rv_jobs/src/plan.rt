@@ -55,7 +55,7 @@ pub fn gather<S: Store>(alloc: Global, jobs: JobList, store: &mut S) -> Result<P
         ≡ after_increments (S.fault_count store.old) (unreadable_count p.results)) }
 {
     let indices = all_indices(alloc, &jobs)?;
-    gather_jobs(alloc, jobs, indices, store)
+    gather_jobs(alloc, jobs, indices.as_slice(), store)
 }
 
 /// Reads only the paths that the rows of the jobs at `indices` need, and returns the plan with the results. Each distinct path of these
@@ -63,14 +63,14 @@ pub fn gather<S: Store>(alloc: Global, jobs: JobList, store: &mut S) -> Result<P
 pub fn gather_jobs<S: Store>(
     alloc: Global,
     jobs: JobList,
-    indices: Vec<usize>,
+    indices: &[usize],
     store: &mut S,
 ) -> Result<Plan, AllocError>
-    requires { All (λ index. index < length jobs) indices.items }
+    requires { All (λ index. index < length jobs) indices.now }
     ensures contents_unchanged { S.contents store.new ≡ S.contents store.old }
     ensures jobs { IfOk result (λ p. p.jobs ≡ jobs) }
     ensures paths { IfOk result (λ p. paths_of p.results
-        ≡ paths_used (jobs_needed_for jobs indices.items)) }
+        ≡ paths_used (jobs_needed_for jobs indices.now)) }
     ensures agree { IfOk result (λ p. AgreeWithContents (S.contents store.old) p.results) }
     ensures faults { IfOk result (λ p. S.fault_count store.new
         ≡ after_increments (S.fault_count store.old) (unreadable_count p.results)) }
@@ -78,7 +78,7 @@ pub fn gather_jobs<S: Store>(
     let none = PathResults::new(alloc, indices.len())?;
     let mut path_results = none;
     let mut recorded = empty_result_indices(alloc, jobs.as_slice())?;
-    for index in indices.as_slice() {
+    for index in indices {
         path_results = path_results.read_paths_for_row(
             alloc,
             store,
@@ -93,10 +93,11 @@ pub fn gather_jobs<S: Store>(
         jobs.as_slice(),
         recorded.as_slice(),
     )?;
+    let chosen = Vec::from_slice(alloc, indices)?;
     let results = path_results.into_results();
     Ok(Plan {
         jobs,
-        chosen: indices,
+        chosen,
         results,
         result_indices: result_indices_of_jobs,
         not_read: Kept::Unreadable,

@@ -223,17 +223,10 @@ fn loaded_machine(
     requires fits { map_check image.now.segments job.now.regions job.now.load ≡ accepted }
     ensures { IfOk result (λ machine. state_of machine ≡ loaded_state job.now file.now image.now) }
 {
-    let script = copy_bytes(alloc, job.script.as_slice())?;
+    let script = job.script.as_slice().to_vec(alloc)?;
     let mut bus = spare.new_bus(alloc, job.regions, script, job.misaligned)?;
     load(image, file, job.load, &mut bus);
     Machine::new(alloc, bus, image.entry, job.isa)
-}
-
-// Returns a copy of the bytes.
-fn copy_bytes(alloc: Global, bytes: &[u8]) -> Result<Vec<u8>, AllocError>
-    ensures { IfOk result (λ copy. copy.items ≡ bytes.now) }
-{
-    bytes.to_vec(alloc)
 }
 
 /// Returns the ended run of this machine, with its ending, its steps and the range of its signature.

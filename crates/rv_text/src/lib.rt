@@ -19,7 +19,7 @@ pub use printable::{
     MAX_NAME_CHARS, MAX_VALUE_CHARS, is_utf8, push_printable_name, push_printable_text,
     push_printable_value,
 };
-pub use slices::{actual_and_expected_from, byte_at, tail_from};
+pub use slices::{actual_and_expected_from, byte_at, common_prefix_len, tail_from};
 pub use spans::{Span, push_spans, text_of_spans};
 pub use symbol::{push_symbol, push_symbol_in_brackets};
 pub use text_and_numbers::{push_count, push_exit_code, push_number, push_text, push_word_digits};

@@ -1,6 +1,7 @@
 //! Slices of texts.
 
-ghost use Rattle.std.specs.Prelude.{◌≡◌, ◌+◌, drop, slice_index};
+ghost use Rattle.std.specs.Prelude.{◌≡◌, ◌+◌, drop, nat_eq, slice_index};
+ghost use Rattle.std.specs.List.{common_prefix_len};
 ghost use Rattle.std.specs.Str.{continuation_len};
 
 /// Returns the byte at an index, or 0 if there is no such index.
@@ -35,6 +36,17 @@ pub(crate) fn char_len(first: u8) -> usize
     } else {
         4
     }
+}
+
+/// Returns the number of equal leading bytes of two texts.
+pub fn common_prefix_len(text: &[u8], other: &[u8]) -> usize
+    ensures { result ≡ common_prefix_len nat_eq text.now other.now }
+{
+    let mut len = 0;
+    while len < text.len() && len < other.len() && text[len] == other[len] {
+        len += 1;
+    }
+    len
 }
 
 /// Returns the actual and the expected bytes, both from the index `index` on.

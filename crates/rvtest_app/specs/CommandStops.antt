@@ -29,7 +29,7 @@ use Rattle.rvtest_app.specs.Responses.{RequestHelp}
 use Rattle.rvtest_app.specs.Commands.{failure_rule}
 use Rattle.rvtest_app.specs.CountStops.{IsCountsStop}
 use Rattle.rvtest_app.specs.CoverStops.{IsCoverStop}
-use Rattle.rvtest_app.specs.Debugging.{IsSessionErrorStop, IsFailureCounted, IsNoGdbStop, IsUnopenedJobOfTextStop}
+use Rattle.rvtest_app.specs.Debugging.{IsSessionErrorStop, IsFailureCounted, IsNoGdbStop, IsRefusedSessionStop}
 use Rattle.rvtest_app.specs.HelpTopics.{IsNoTopicStop}
 use Rattle.rvtest_app.specs.MergeStops.{IsMergeStop}
 use Rattle.rvtest_app.specs.Overwrites.{IsShowOverwriteStop}
@@ -49,21 +49,23 @@ abbrev pub IsNoJobStop : List ℕ → List ℕ → List ℕ → Stop → Type 0
 IsNoJobStop path text name stop = IsListFaultStop path text stop
     ⊎ ((jobs : List Job) × ((job_list_of text ≡ Ok jobs) × IsUnknownNameStop path jobs name stop))
 
+-- why a command stopped: the list at the path could not be read, it has an error, or no job has this name
+abbrev pub IsNoNamedJobStop : Option FileContents → List ℕ → List ℕ → Stop → Type 0
+IsNoNamedJobStop contents path name stop = IsListUnreadStop contents path stop
+    ⊎ ((text : List ℕ) × (IsTextAt contents path text × IsNoJobStop path text name stop))
+
 -- why `explain` stopped: the list could not be read, it has an error, or no job has the requested name
 abbrev pub IsExplainStop : Option FileContents → ExplainArgs → Stop → Type 0
-IsExplainStop contents args stop = IsListUnreadStop contents args.list.now stop
-    ⊎ ((text : List ℕ) × (IsTextAt contents args.list.now text × IsNoJobStop args.list.now text args.name.now stop))
+IsExplainStop contents args stop = IsNoNamedJobStop contents args.list.now args.name.now stop
 
 -- why `console` stopped: the list could not be read, it has an error, or no job has the requested name
 abbrev pub IsConsoleStop : Option FileContents → ConsoleArgs → Stop → Type 0
-IsConsoleStop contents args stop = IsListUnreadStop contents args.list.now stop
-    ⊎ ((text : List ℕ) × (IsTextAt contents args.list.now text × IsNoJobStop args.list.now text args.name.now stop))
+IsConsoleStop contents args stop = IsNoNamedJobStop contents args.list.now args.name.now stop
 
 -- why `gdb` could not open a session: the list could not be read or has an error, no job has the requested name, or the job is refused
 abbrev pub IsUnopenedSessionStop : Option FileContents → GdbArgs → Stop → Type 0
-IsUnopenedSessionStop contents args stop = IsListUnreadStop contents args.list.now stop
-    ⊎ ((text : List ℕ) × (IsTextAt contents args.list.now text
-    × (IsNoJobStop args.list.now text args.name.now stop ⊎ IsUnopenedJobOfTextStop contents args text stop)))
+IsUnopenedSessionStop contents args stop = IsNoNamedJobStop contents args.list.now args.name.now stop
+    ⊎ IsRefusedSessionStop contents args stop
 
 -- why `gdb` did not start a session: standard output is a terminal, or the session could not be opened
 abbrev pub IsSessionNotStartedStop : Option FileContents → Bool → GdbArgs → Stop → Type 0

@@ -1,5 +1,5 @@
 -- The session of the command `gdb`: which job it debugs, and what it reads and writes.
-use Rattle.std.specs.Prelude.{◌≡◌, ◌≢◌, ◌⊎◌, ℕ, Bool, List, [], ◌∷◌, Option, Some, None, Ok, codes, false, is_ok, option_and_then, slice_get, slice_index_or, true, unwrap_or}
+use Rattle.std.specs.Prelude.{◌≡◌, ◌≢◌, ◌⊎◌, ℕ, Bool, List, [], ◌∷◌, Option, Some, None, codes, false, is_ok, option_and_then, slice_get, slice_index_or, true, unwrap_or}
 use Rattle.std.specs.Io.KnownBytes.{Consumes, IsAtEnd}
 use Rattle.std.specs.Result.{result_ok}
 use Rattle.rv_files.specs.Counts.{one_more}
@@ -7,7 +7,7 @@ use Rattle.rv_files.specs.Files.{FileContents}
 use Rattle.rvtest_cli.specs.declared.gdb.GdbArgs.{GdbArgs}
 use Rattle.rv_command.specs.Messages.{path_message}
 use Rattle.rv_command.specs.Stops.{IsStop, IsSystemStop}
-use Rattle.rv_command.specs.Texts.{IsTextAt, optional_text}
+use Rattle.rv_command.specs.Texts.{optional_text}
 use Rattle.rv_command.specs.declared.stop.Stop.{Stop}
 use Rattle.rv_command.specs.declared.stop.Stop.TheVariants as stops
 use Rattle.rv_expect.specs.Judgement.{judge_by_rule}
@@ -20,14 +20,13 @@ use Rattle.rv_gdb.specs.declared.conversation.SessionError.TheVariants as sessio
 use Rattle.rv_gdb.specs.JobSessions.{IsSessionOf}
 use Rattle.rv_job_text.specs.RowReporter.{outcome_text, row_line}
 use Rattle.rv_rows.specs.Plans.{AgreeWithContents, PlanView, jobs_needed_for, paths_of, paths_used}
-use Rattle.rv_rows.specs.JobList.{job_list_of}
 use Rattle.rv_rows.specs.declared_job.Job.{Job}
 use Rattle.rv_rows.specs.State.{State}
 use Rattle.rv_rows.specs.Flat.{flat_state}
 use Rattle.rv_rows.specs.Rows.{row_of, start_state_in}
 use Rattle.rv_gdb.specs.Incoming.{IsReceived}
 use Rattle.rv_gdb.specs.declared_session.Session.{Session}
-use Rattle.rvtest_app.specs.Reports.{HasEntryPerUnreadable, IsFirstJobNamed}
+use Rattle.rvtest_app.specs.Reports.{HasEntryPerUnreadable, IsNamedJobAt}
 use Rattle.rvtest_app.specs.CommandOutputs.{IsOnlyStandardOutput, CommandOutputs}
 
 -- the text that `run` prints about a job: its result line and its unmet expectations; empty if there is no job
@@ -58,21 +57,13 @@ pub record IsJobOpened (contents : Option FileContents) (root : Option (List ℕ
       (resolved_path root (slice_index_or plan.jobs index d).image) session
   pub end_text_is : end_text ≡ job_end_text plan unread index
 
--- `session` debugs the first job with the requested name in the list with the text `bytes`, and `end_text` is the text that `run` prints
--- about the job
-pub record IsSessionOpenedOf (contents : Option FileContents) (args : GdbArgs) (bytes end_text : List ℕ) (session : Session) : Type 0 where
-  pub jobs : List Job
-  pub listed : job_list_of bytes ≡ Ok jobs
-  pub index : ℕ
-  pub first : IsFirstJobNamed jobs args.name.now index
-  pub of_job : IsJobOpened (contents_below (optional_text args.root) contents) (optional_text args.root) jobs index end_text session
-
 -- `session` debugs the job with the requested name in the list at the path in the arguments, and `end_text` is the text that `run` prints
 -- about the job
 pub record IsSessionOpenedAt (contents : Option FileContents) (args : GdbArgs) (end_text : List ℕ) (session : Session) : Type 0 where
-  pub bytes : List ℕ
-  pub read : IsTextAt contents args.list.now bytes
-  pub of_list : IsSessionOpenedOf contents args bytes end_text session
+  pub jobs : List Job
+  pub index : ℕ
+  pub named : IsNamedJobAt contents args.list.now args.name.now jobs index
+  pub of_job : IsJobOpened (contents_below (optional_text args.root) contents) (optional_text args.root) jobs index end_text session
 
 -- `gdb` read bytes from standard input until the session or the input ended, and wrote only the replies of the session to standard output,
 -- which is not a terminal
@@ -122,12 +113,11 @@ pub record IsRefusedJobStop (contents : Option FileContents) (jobs : List Job) (
 abbrev pub IsUnopenedJobStop : Option FileContents → List Job → ℕ → Stop → Type 0
 IsUnopenedJobStop contents jobs index stop = (stop ≡ stops.OutOfMemory) ⊎ IsRefusedJobStop contents jobs index stop
 
--- why a command stopped: memory ran out, or the first job with the requested name in the list with the text `bytes` is refused
-pub record IsUnopenedJobOfTextStop (contents : Option FileContents) (args : GdbArgs) (bytes : List ℕ) (stop : Stop) : Type 0 where
+-- why a command stopped: memory ran out, or the job with the requested name in the list at the path in the arguments is refused
+pub record IsRefusedSessionStop (contents : Option FileContents) (args : GdbArgs) (stop : Stop) : Type 0 where
   pub jobs : List Job
-  pub listed : job_list_of bytes ≡ Ok jobs
   pub index : ℕ
-  pub first : IsFirstJobNamed jobs args.name.now index
+  pub named : IsNamedJobAt contents args.list.now args.name.now jobs index
   pub refused : IsRefusedJobStop (contents_below (optional_text args.root) contents) jobs index stop
 
 -- why a command stopped: the session ended with this error; memory ran out, standard input could not be read, or a write failed

@@ -159,20 +159,18 @@ pub record IsJobExplained (contents : Option FileContents) (jobs : List Job) (in
 abbrev pub IsFirstJobNamed : List Job → List ℕ → ℕ → Type 0
 IsFirstJobNamed jobs name index = position (λ (job : Job). bytes_eq job.name name) jobs ≡ Some index
 
--- `output` and `status` are the output and exit status of `explain` for the list with the text `bytes`; a requested budget replaces the
--- job's own
-pub record IsExplanationOf (contents : Option FileContents) (args : ExplainArgs) (bytes output : List ℕ) (status : ℕ)
-    : Type 0 where
-  pub jobs : List Job
+-- the list at the path has these jobs, and `index` is the index of the first job named `name`
+pub record IsNamedJobAt (contents : Option FileContents) (list name : List ℕ) (jobs : List Job) (index : ℕ) : Type 0 where
+  pub bytes : List ℕ
+  pub read : IsTextAt contents list bytes
   pub listed : job_list_of bytes ≡ Ok jobs
-  pub index : ℕ
-  pub first : IsFirstJobNamed jobs args.name.now index
-  pub explained : IsJobExplained (contents_below (optional_text args.root) contents) (with_budget args.budget jobs) index
-      args.last output status
+  pub first : IsFirstJobNamed jobs name index
 
--- `output` and `status` are the output and exit status of `explain` for the list at the path in the arguments
+-- `output` and `status` are the output and exit status of `explain` with these arguments; a requested budget replaces that of the job
 pub record IsExplanationAt (contents : Option FileContents) (args : ExplainArgs) (output : List ℕ) (status : ℕ)
     : Type 0 where
-  pub bytes : List ℕ
-  pub read : IsTextAt contents args.list.now bytes
-  pub explained : IsExplanationOf contents args bytes output status
+  pub jobs : List Job
+  pub index : ℕ
+  pub named : IsNamedJobAt contents args.list.now args.name.now jobs index
+  pub explained : IsJobExplained (contents_below (optional_text args.root) contents) (with_budget args.budget jobs) index
+      args.last output status

@@ -33,7 +33,6 @@ use crate::destinations::Destinations;
 use crate::host::Host;
 use crate::missing_images::missing_images_note;
 use crate::rules::failure_rule;
-use crate::run::gather_jobs_at;
 use rv_accept::{
     Acceptance, GoldenText, JobRun, golden_texts_of_runs, indexed_rows, jobs_to_run, judged_runs,
     targets_of,
@@ -42,7 +41,7 @@ use rv_accept_text::{AcceptSummary, GoldenFile, ListFile, NewList, Writing, acce
 use rv_choice::{Choice, Chooser};
 use rv_command::{DONE, SOME_FAIL, Stop, parse_list, read_list_text, write_message, write_results};
 use rv_files::{Inputs, Outputs, RecordingStore, Sink};
-use rv_rows::{Job, JobList, Row, selected_indices};
+use rv_rows::{Job, JobList, Row, gather_jobs, selected_indices};
 use rv_stream::{Batch, run_batch};
 use rvtest_cli::{AcceptArgs, ChoosingCommand};
 use std::alloc::{AllocError, Global};
@@ -277,7 +276,7 @@ fn run_selected<
     let (alloc, root) = (host.alloc, args.run.root);
     let indices = selected_indices(alloc, selection.as_slice())?;
     let mut store = RecordingStore::new(host.inputs, alloc, root);
-    let plan = gather_jobs_at(alloc, jobs, indices.as_slice(), &mut store)?;
+    let plan = gather_jobs(alloc, jobs, indices.as_slice(), &mut store)?;
     let count = indices.as_slice().len();
     let note = missing_images_note(alloc, &plan, store.unreadable_paths(), count, root)?;
     write_message(&mut destinations.errors, note.as_slice());

@@ -63,7 +63,7 @@ pub(crate) fn golden_file_path(
     ensures { IfOk result (λ resolved. resolved ≡ resolved_path (optional_text root.entry) path.now) }
 {
     let resolved = resolved_path(alloc, root, path)?;
-    Text::copy(alloc, resolved.as_str())
+    Ok(Text::new(resolved.into_string()))
 }
 
 // Reads the golden file at a path. Returns `None` if it does not exist, and an error if it is larger than 16 MiB or cannot be read.

@@ -9,15 +9,15 @@ ghost use Rattle.rv_expect.specs.declared.rule.Rule.TheVariants.{Strict};
 ghost use Rattle.rv_files.specs.UnreadablePaths.{contents_below};
 ghost use Rattle.rv_job_text.specs.RowReporter.{row_line};
 ghost use Rattle.rv_rows.specs.Rows.{row_of};
-ghost use Rattle.rvtest_app.specs.CommandStops.{IsConsoleStop, IsNoJobStop};
+ghost use Rattle.rvtest_app.specs.CommandStops.{IsConsoleStop};
 ghost use Rattle.rvtest_app.specs.Commands.{passing_status};
-ghost use Rattle.rvtest_app.specs.Consoles.{IsConsoleAt, IsConsoleOf, IsConsoleWritten, IsJobConsole};
+ghost use Rattle.rvtest_app.specs.Consoles.{IsConsoleAt, IsConsoleWritten, IsJobConsole};
 ghost use Rattle.rvtest_app.specs.CommandOutputs.{outputs_of};
 
 use crate::destinations::Destinations;
-use crate::named_job::{NamedJob, find_named_job};
+use crate::named_job::{NamedJob, read_named_job};
 use crate::rules::passing_status;
-use rv_command::{Stop, read_list_text, write_message, write_results};
+use rv_command::{Stop, write_message, write_results};
 use rv_expect::{Judge, Rule, has_passed};
 use rv_files::{Inputs, Outputs, RecordingStore, Sink, UnreadablePath};
 use rv_job_text::{TextReporter, Verbosity};
@@ -64,24 +64,7 @@ fn run_named_job<D: Inputs>(
     ensures status_bound { IfOk result (λ reported. reported.status ≤ 1) }
     ensures stopped { IfErr result (IsConsoleStop (D.contents inputs.now) args.entry) }
 {
-    let text = read_list_text(inputs, alloc, args.list)?;
-    run_job_of_text(inputs, alloc, args, text.as_slice())
-}
-
-// Runs the job with the requested name from the list with this text, and returns its row, its result line, and the exit status.
-fn run_job_of_text<D: Inputs>(
-    inputs: &D,
-    alloc: Global,
-    args: ConsoleArgs<'_>,
-    text: &[u8],
-) -> Result<ReportedRow, Stop>
-    ensures reported { IfOk result (λ reported.
-        IsConsoleOf (contents_below (optional_text args.entry.root) (D.contents inputs.now))
-        text.now args.entry.name.now reported.row.console reported.line.items reported.status) }
-    ensures status_bound { IfOk result (λ reported. reported.status ≤ 1) }
-    ensures stopped { IfErr result (IsNoJobStop args.entry.list.now text.now args.entry.name.now) }
-{
-    let NamedJob { jobs, index } = find_named_job(alloc, args.list, args.name, text)?;
+    let NamedJob { jobs, index } = read_named_job(inputs, alloc, args.list, args.name)?;
     run_job_at(inputs, alloc, args, jobs, index)
 }
 
@@ -100,9 +83,8 @@ fn run_job_at<D: Inputs>(
     ensures status_bound { IfOk result (λ reported. reported.status ≤ 1) }
     ensures memory { IfErr result (λ stop. stop ≡ Stop.OutOfMemory) }
 {
-    let indices = vec![in alloc; index; 1]?;
     let mut store = RecordingStore::new(inputs, alloc, args.root);
-    let plan = gather_jobs(alloc, jobs, indices, &mut store)?;
+    let plan = gather_jobs(alloc, jobs, &[index], &mut store)?;
     run_planned_job(alloc, &plan, store.unreadable_paths(), index)
 }
 

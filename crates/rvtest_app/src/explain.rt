@@ -8,14 +8,14 @@ ghost use Rattle.rv_expect.specs.Rule.{has_passed};
 ghost use Rattle.rv_rows.specs.Rows.{row_of};
 ghost use Rattle.rvtest_app.specs.Commands.{passing_status};
 ghost use Rattle.rv_files.specs.UnreadablePaths.{contents_below};
-ghost use Rattle.rvtest_app.specs.Reports.{IsExplanationAt, IsExplanationOf, IsJobExplained, IsTextExplaining};
+ghost use Rattle.rvtest_app.specs.Reports.{IsExplanationAt, IsJobExplained, IsTextExplaining};
 ghost use Rattle.rv_command.specs.Texts.{optional_text};
-ghost use Rattle.rvtest_app.specs.CommandStops.{IsExplainStop, IsNoJobStop};
+ghost use Rattle.rvtest_app.specs.CommandStops.{IsExplainStop};
 
 use crate::command_result::CommandResult;
-use crate::named_job::{NamedJob, find_named_job};
+use crate::named_job::{NamedJob, read_named_job};
 use crate::rules::passing_status;
-use rv_command::{Stop, read_list_text};
+use rv_command::Stop;
 use rv_expect::{Judge, Rule, has_passed};
 use rv_files::{Inputs, RecordingStore, UnreadablePath};
 use rv_job_text::{TextReporter, TraceOptions, Verbosity, budget_use_at};
@@ -35,23 +35,7 @@ pub(crate) fn explain_named_job<D: Inputs>(
     ensures status_bound { IfOk result (λ output. output.status ≤ 1) }
     ensures stopped { IfErr result (IsExplainStop (D.contents inputs.now) args.entry) }
 {
-    let text = read_list_text(inputs, alloc, args.list)?;
-    explain_job_of_text(inputs, alloc, args, text.as_slice())
-}
-
-// Runs the job with the requested name from the list whose text is `text`, and returns its explanation and the exit status.
-fn explain_job_of_text<D: Inputs>(
-    inputs: &D,
-    alloc: Global,
-    args: ExplainArgs<'_>,
-    text: &[u8],
-) -> Result<CommandResult, Stop>
-    ensures explanation { IfOk result (λ output. IsExplanationOf (D.contents inputs.now) args.entry text.now
-        output.text.items output.status) }
-    ensures status_bound { IfOk result (λ output. output.status ≤ 1) }
-    ensures stopped { IfErr result (IsNoJobStop args.entry.list.now text.now args.entry.name.now) }
-{
-    let NamedJob { jobs, index } = find_named_job(alloc, args.list, args.name, text)?;
+    let NamedJob { jobs, index } = read_named_job(inputs, alloc, args.list, args.name)?;
     explain_job_at(inputs, alloc, args, jobs, index)
 }
 
@@ -70,10 +54,9 @@ fn explain_job_at<D: Inputs>(
     ensures status_bound { IfOk result (λ output. output.status ≤ 1) }
     ensures memory { IfErr result (λ stop. stop ≡ Stop.OutOfMemory) }
 {
-    let indices = vec![in alloc; index; 1]?;
     let jobs = jobs.with_budget(args.budget);
     let mut store = RecordingStore::new(inputs, alloc, args.root);
-    let plan = gather_jobs(alloc, jobs, indices, &mut store)?;
+    let plan = gather_jobs(alloc, jobs, &[index], &mut store)?;
     explain_planned_job(alloc, &plan, store.unreadable_paths(), index, args.last)
 }
 

@@ -12,15 +12,15 @@ ghost use Rattle.rv_gdb.specs.JobSessions.{IsSessionOf};
 ghost use Rattle.rv_job_text.specs.RowReporter.{row_line};
 ghost use Rattle.rv_rows.proofs.Public.{state_code};
 ghost use Rattle.rv_rows.specs.Rows.{row_of, start_state_in};
-ghost use Rattle.rvtest_app.specs.CommandStops.{IsGdbStopped, IsNoJobStop, IsUnopenedSessionStop};
-ghost use Rattle.rvtest_app.specs.Debugging.{IsSessionErrorStop, IsGdbServed, IsJobOpened, IsNoGdbStop, IsSessionOpenedAt, IsSessionOpenedOf, IsUnopenedJobOfTextStop, IsUnopenedJobStop, job_end_text, job_start_state};
+ghost use Rattle.rvtest_app.specs.CommandStops.{IsGdbStopped, IsUnopenedSessionStop};
+ghost use Rattle.rvtest_app.specs.Debugging.{IsSessionErrorStop, IsGdbServed, IsJobOpened, IsNoGdbStop, IsSessionOpenedAt, IsUnopenedJobStop, job_end_text, job_start_state};
 ghost use Rattle.rvtest_app.specs.CommandOutputs.{outputs_of};
 
 use crate::destinations::Destinations;
 use crate::host::Host;
-use crate::named_job::{NamedJob, find_named_job};
+use crate::named_job::{NamedJob, read_named_job};
 use crate::planned_job::PlannedJob;
-use rv_command::{DONE, Stop, file_error_stop, path_message, read_list_text};
+use rv_command::{DONE, Stop, file_error_stop, path_message};
 use rv_expect::{Judge, Rule};
 use rv_files::{
     Bytes, FileError, Inputs, Outputs, RecordingStore, Sink, UnreadablePath, resolved_path,
@@ -125,23 +125,7 @@ fn session_of_named_job<D: Inputs>(
         (job_end_text opened.job.plan opened.job.unread.items opened.job.index) opened.session) }
     ensures stopped { IfErr result (IsUnopenedSessionStop (D.contents inputs.now) args.entry) }
 {
-    let text = read_list_text(inputs, alloc, args.list)?;
-    session_of_text(inputs, alloc, args, text.as_slice())
-}
-
-// Opens a session for the job with the requested name from the list with this text.
-fn session_of_text<D: Inputs>(
-    inputs: &D,
-    alloc: Global,
-    args: GdbArgs<'_>,
-    text: &[u8],
-) -> Result<JobSession, Stop>
-    ensures opened { IfOk result (λ opened. IsSessionOpenedOf (D.contents inputs.now) args.entry text.now
-        (job_end_text opened.job.plan opened.job.unread.items opened.job.index) opened.session) }
-    ensures stopped { IfErr result (λ stop. IsNoJobStop args.entry.list.now text.now args.entry.name.now stop
-        ⊎ IsUnopenedJobOfTextStop (D.contents inputs.now) args.entry text.now stop) }
-{
-    let named = find_named_job(alloc, args.list, args.name, text)?;
+    let named = read_named_job(inputs, alloc, args.list, args.name)?;
     session_of_job(inputs, alloc, args, named)
 }
 
@@ -160,9 +144,8 @@ fn session_of_job<D: Inputs>(
         named.jobs named.index) }
 {
     let NamedJob { jobs, index } = named;
-    let indices = vec![in alloc; index; 1]?;
     let mut store = RecordingStore::new(inputs, alloc, args.root);
-    let plan = gather_jobs(alloc, jobs, indices, &mut store)?;
+    let plan = gather_jobs(alloc, jobs, &[index], &mut store)?;
     match session_of_plan(alloc, &plan, index, args.root)? {
         Some(session) => {
             let unread = store.into_unreadable_paths();

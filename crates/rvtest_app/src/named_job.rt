@@ -1,13 +1,13 @@
-//! Finding a job by name in the text of a list.
+//! Finding a job of a list by its name.
 
-ghost use Rattle.std.specs.Prelude.{◌≡◌, ◌<◌, IfErr, IfOk, IfSome, Ok, length, position};
+ghost use Rattle.std.specs.Prelude.{◌≡◌, ◌<◌, IfErr, IfOk, IfSome, length, position};
 ghost use Rattle.std.specs.Str.{bytes_eq};
-ghost use Rattle.rv_rows.specs.JobList.{job_list_of};
-ghost use Rattle.rvtest_app.specs.CommandStops.{IsNoJobStop};
-ghost use Rattle.rvtest_app.specs.Reports.{IsFirstJobNamed};
+ghost use Rattle.rvtest_app.specs.CommandStops.{IsNoNamedJobStop};
+ghost use Rattle.rvtest_app.specs.Reports.{IsNamedJobAt};
 
 use rv_choice::unknown_name_stop;
-use rv_command::{Stop, parse_list};
+use rv_command::{Stop, parse_list, read_list_text};
+use rv_files::Inputs;
 use rv_rows::{Job, JobList};
 use std::alloc::Global;
 
@@ -18,20 +18,19 @@ pub(crate) struct NamedJob {
     pub(crate) index: usize,
 }
 
-/// Parses the text of a list, and returns its jobs and the index of the first job with this name. It is an error if no job has this name.
-/// `list_path` is the path of the list.
-pub(crate) fn find_named_job(
+/// Reads the list at a path, and returns its jobs and the index of the first job with this name.
+pub(crate) fn read_named_job<D: Inputs>(
+    inputs: &D,
     alloc: Global,
     list_path: &str,
     name: &str,
-    text: &[u8],
 ) -> Result<NamedJob, Stop>
-    ensures listed { IfOk result (λ named. job_list_of text.now ≡ Ok named.jobs) }
-    ensures first { IfOk result (λ named. IsFirstJobNamed named.jobs name.now named.index) }
+    ensures named { IfOk result (λ named. IsNamedJobAt (D.contents inputs.now) list_path.now name.now named.jobs named.index) }
     ensures within { IfOk result (λ named. named.index < length named.jobs) }
-    ensures stopped { IfErr result (IsNoJobStop list_path.now text.now name.now) }
+    ensures stopped { IfErr result (IsNoNamedJobStop (D.contents inputs.now) list_path.now name.now) }
 {
-    let jobs = parse_list(alloc, list_path, text)?;
+    let text = read_list_text(inputs, alloc, list_path)?;
+    let jobs = parse_list(alloc, list_path, text.as_slice())?;
     match named_job_index(jobs.as_slice(), name) {
         Some(index) => Ok(NamedJob { jobs, index }),
         None => Err(unknown_name_stop(alloc, list_path, jobs.as_slice(), name)),

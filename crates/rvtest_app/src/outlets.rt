@@ -7,7 +7,7 @@ ghost use Rattle.rv_command.specs.Texts.{optional_text};
 ghost use Rattle.rv_expect.specs.Judgement.{judge_view};
 ghost use Rattle.rvtest_app.specs.Outlets.{HasReceived, IsWrittenToOutlet, file_path_at, has_no_failure, is_stdout_outlet, is_stdout, is_stdout_at};
 ghost use Rattle.rvtest_app.specs.Outlets.{outlet_path, text_if_stdout, uses_stdout};
-ghost use Rattle.rvtest_app.specs.WriteStops.{IsEitherFileStop, IsTextNotWrittenStop, IsFileNotOpenedStop, IsWriteFailedStop, IsWriteErrorStop, IsWriteFailedForReasonStop};
+ghost use Rattle.rvtest_app.specs.WriteStops.{IsEitherFileStop, IsTextNotWrittenStop, IsFileNotOpenedStop, IsWriteFailedStop, IsWriteErrorStop};
 ghost use Rattle.rvtest_app.specs.WriteStops.{stop_of_write_error};
 ghost use Rattle.rv_junit.specs.Junit.{junit_text};
 ghost use Rattle.rv_junit.specs.KnownLines.{AreLinesOf};
@@ -304,13 +304,6 @@ fn file_result(
 /// Returns the error for a file that could not be written completely, for this reason.
 pub(crate) fn unwritten_stop(alloc: Global, path: &str, reason: ErrorKind) -> Stop
     ensures { IsWriteFailedStop path.now result }
-{
-    write_stop(alloc, path, reason)
-}
-
-// Returns the error for a failed write to the file at the path, for this reason.
-fn write_stop(alloc: Global, path: &str, reason: ErrorKind) -> Stop
-    ensures { IsWriteFailedForReasonStop path.now reason result }
 {
     Stop::system_failure(path_message(alloc, path, write_error_text(reason)))
 }

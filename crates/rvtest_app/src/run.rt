@@ -1,8 +1,6 @@
 //! The command `run`.
 
-ghost use Rattle.std.specs.Prelude.{◌≡◌, ◌⊎◌, ◌≤◌, ◌<◌, None, Some, IfErr, IfOk, OnErr, true, length};
-ghost use Rattle.std.specs.List.{All};
-ghost use Rattle.rv_rows.specs.Plans.{AgreeWithContents, jobs_needed_for, after_increments, paths_of, paths_used, unreadable_count};
+ghost use Rattle.std.specs.Prelude.{◌≡◌, ◌⊎◌, ◌≤◌, None, Some, IfErr, IfOk, OnErr, true};
 ghost use Rattle.rvtest_app.specs.Commands.{failure_rule, requested_verbosity};
 ghost use Rattle.rvtest_app.specs.Overwrites.{AreRunInputsPreserved};
 ghost use Rattle.rvtest_app.specs.RunStops.{IsRunWriteStop, IsRunStop};
@@ -20,11 +18,10 @@ use crate::run_inputs::reject_run_overwrites;
 use crate::terminals::Terminals;
 use rv_command::{DONE, Stop, write_message};
 use rv_expect::{Judge, Rule};
-use rv_files::{Inputs, Outputs, RecordingStore, Sink, Store};
+use rv_files::{Inputs, Outputs, RecordingStore, Sink};
 use rv_job_text::{TextReporter, Verbosity};
-use rv_rows::{JobList, Plan, gather_jobs, selected_indices};
+use rv_rows::{gather_jobs, selected_indices};
 use rvtest_cli::{ChoosingCommand, RunArgs};
-use std::alloc::{AllocError, Global};
 use std::io::Write;
 use std::sync::Wait;
 use std::thread::Threads;
@@ -147,7 +144,7 @@ impl<'x, R: Threads + Wait + Sync + Clock, D: Inputs> ListRun<'x, R, D> {
         };
         let jobs = jobs.with_budget(args.budget);
         let mut store = RecordingStore::new(self.host.inputs, alloc, args.root);
-        let plan = match gather_jobs_at(alloc, jobs, indices.as_slice(), &mut store) {
+        let plan = match gather_jobs(alloc, jobs, indices.as_slice(), &mut store) {
             Ok(plan) => plan,
             Err(error) => return (destinations, Err(Stop::from(error))),
         };
@@ -176,25 +173,6 @@ impl<'x, R: Threads + Wait + Sync + Clock, D: Inputs> ListRun<'x, R, D> {
         };
         self.run_into_files(&planned, context, destinations, terminals)
     }
-}
-
-/// Reads the files that the jobs at these indices need, and returns the plan of the list with these files.
-pub(crate) fn gather_jobs_at<S: Store>(
-    alloc: Global,
-    jobs: JobList,
-    indices: &[usize],
-    store: &mut S,
-) -> Result<Plan, AllocError>
-    requires { All (λ index. index < length jobs) indices.now }
-    ensures contents_unchanged { S.contents store.new ≡ S.contents store.old }
-    ensures jobs { IfOk result (λ plan. plan.jobs ≡ jobs) }
-    ensures paths { IfOk result (λ plan. paths_of plan.results
-        ≡ paths_used (jobs_needed_for jobs indices.now)) }
-    ensures kept { IfOk result (λ plan. AgreeWithContents (S.contents store.old) plan.results) }
-    ensures unreadable_count { IfOk result (λ plan. S.fault_count store.new
-        ≡ after_increments (S.fault_count store.old) (unreadable_count plan.results)) }
-{
-    gather_jobs(alloc, jobs, Vec::from_slice(alloc, indices)?, store)
 }
 
 // Returns which rows are shown: none with `--quiet`, all with `--verbose` alone, and otherwise only the failures.

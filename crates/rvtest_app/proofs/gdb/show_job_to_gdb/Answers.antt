@@ -9,7 +9,7 @@ pub serve-requires-clause-requested : goal.serve-requires-clause-requested
 serve-requires-clause-requested g c =
     let opened = c.in_ok-opened.ensures.opened in λ lifetimes outlive.
     ap (λ (s : Session). s.requested) c.limit_memory.ensures
-    ∙ ap (λ (s : Session). s.requested) (opened.of_list.of_job.session_of_job (single_job [] 0 [])).session_is
+    ∙ ap (λ (s : Session). s.requested) (opened.of_job.session_of_job (single_job [] 0 [])).session_is
 
 pub returns-in-Ok-clause-served : goal.returns-in-Ok-clause-served
 returns-in-Ok-clause-served g c =

@@ -12,7 +12,7 @@ use Rattle.rvtest_app.proofs.run.ListRun.run_selected_jobs.Goals as goal
 pub returns-clause-run : goal.returns-clause-run
 returns-clause-run g c =
     let known = known_behind c.as_ref.result ∙ c.as_ref.ensures.value in
-    let found = c.in-Ok-gather_jobs_at.ensures in
+    let found = c.in-Ok-gather_jobs.ensures in
     let noted = rw (
       c.as_slice-3.ensures.value,
       c.in-Ok-missing_images_note.ensures,
@@ -22,7 +22,7 @@ returns-clause-run g c =
     ) at c.write_message.ensures in
     IfOk-beside c.run_into_files.result.1 _ _ _
     (λ status judged put. record {
-      plan = c.in-Ok-gather_jobs_at.plan;
+      plan = c.in-Ok-gather_jobs.plan;
       unread = c.unreadable_paths-unread.result.now;
       planned = record {
         listed = found.jobs ∙ c.with_budget-jobs.ensures.jobs;
@@ -32,8 +32,8 @@ returns-clause-run g c =
           c.as_slice.ensures.value,
           c.with_budget-jobs.ensures.jobs,
         ) at found.paths;
-        results_agree = rw (c.new-store.ensures.inputs, c.new-store.ensures.folder) at found.kept;
-        unread_entries = ap length c.unreadable_paths-unread.ensures ∙ rw c.new-store.ensures.nothing at found.unreadable_count;
+        results_agree = rw (c.new-store.ensures.inputs, c.new-store.ensures.folder) at found.agree;
+        unread_entries = ap length c.unreadable_paths-unread.ensures ∙ rw c.new-store.ensures.nothing at found.faults;
       };
       rows = _;
       rows_are = refl;
@@ -57,11 +57,11 @@ returns-clause-run g c =
 pub returns-clause-committed_after_error : goal.returns-clause-committed_after_error
 returns-clause-committed_after_error g c =
     let args = c.args.self.now.args.now in
-    let plan = c.in-Ok-gather_jobs_at.plan in
+    let plan = c.in-Ok-gather_jobs.plan in
     let unread = c.unreadable_paths-unread.result.now in
     let failures = c.args.selected.known in
     let indices = selected_job_indices c.args.selected.selection.items in
-    let found = c.in-Ok-gather_jobs_at.ensures in
+    let found = c.in-Ok-gather_jobs.ensures in
     let behind = option_map (λ (jobs : Bor KnownJobs). jobs.now) c.as_ref.result in
     let known : behind ≡ failures = known_behind c.as_ref.result ∙ c.as_ref.ensures.value in
     let told = told_by args behind plan unread c.args.self.now.rule c.requested_verbosity.result in
@@ -85,8 +85,8 @@ returns-clause-committed_after_error g c =
           c.as_slice.ensures.value,
           c.with_budget-jobs.ensures.jobs,
         ) at found.paths;
-        results_agree = rw (c.new-store.ensures.inputs, c.new-store.ensures.folder) at found.kept;
-        unread_entries = ap length c.unreadable_paths-unread.ensures ∙ rw c.new-store.ensures.nothing at found.unreadable_count;
+        results_agree = rw (c.new-store.ensures.inputs, c.new-store.ensures.folder) at found.agree;
+        unread_entries = ap length c.unreadable_paths-unread.ensures ∙ rw c.new-store.ensures.nothing at found.faults;
       };
       rows = rows;
       rows_are = refl;

@@ -5,7 +5,7 @@ use Rattle.rvtest_app.proofs.ViewAnswers.{all_small}
 use Rattle.rvtest_app.proofs.view.JobsView.write_selected.Goals as goal
 
 pub view_of_jobs-requires-clause-small : goal.view_of_jobs-requires-clause-small
-view_of_jobs-requires-clause-small g c = λ _ _. all_small _ c.in_ok-plan.plan.results c.in_ok-plan.ensures.kept
+view_of_jobs-requires-clause-small g c = λ _ _. all_small _ c.in_ok-plan.plan.results c.in_ok-plan.ensures.agree
 
 pub returns-in_err-text-clause-stopped : goal.returns-in_err-text-clause-stopped
 returns-in_err-text-clause-stopped g c =
@@ -18,8 +18,8 @@ returns-in_err-text-clause-stopped g c =
       planned = record {
         listed = found.jobs;
         paths = rw (c.as_slice-indices.ensures.value, c.in_ok-selected.ensures.value) at found.paths;
-        results_agree = rw (c.new-store.ensures.inputs, c.new-store.ensures.folder) at found.kept;
-        unread_entries = ap length c.unreadable_paths.ensures ∙ rw c.new-store.ensures.nothing at found.unreadable_count;
+        results_agree = rw (c.new-store.ensures.inputs, c.new-store.ensures.folder) at found.agree;
+        unread_entries = ap length c.unreadable_paths.ensures ∙ rw c.new-store.ensures.nothing at found.faults;
       };
       not_made = rw (c.as_slice-indices.ensures.value, c.in_ok-selected.ensures.value) at c.in_err-text.ensures.stopped;
     })))
@@ -34,8 +34,8 @@ returns-clause-written g c =
         planned = record {
           listed = found.jobs;
           paths = rw (c.as_slice-indices.ensures.value, c.in_ok-selected.ensures.value) at found.paths;
-          results_agree = rw (c.new-store.ensures.inputs, c.new-store.ensures.folder) at found.kept;
-          unread_entries = ap length c.unreadable_paths.ensures ∙ rw c.new-store.ensures.nothing at found.unreadable_count;
+          results_agree = rw (c.new-store.ensures.inputs, c.new-store.ensures.folder) at found.agree;
+          unread_entries = ap length c.unreadable_paths.ensures ∙ rw c.new-store.ensures.nothing at found.faults;
         };
         between = outputs_of g.F.Outputs.committed g.O.Sink.accepted g.E.Sink.accepted g.E.Sink.failure_count
             (record c.args.destinations.now { errors = c.write_message.new.errors });

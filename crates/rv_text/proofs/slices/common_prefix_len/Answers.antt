@@ -1,6 +1,6 @@
 use Rattle.std.proofs.Common.{◌≡◌, ap, drop, length, nat_eq, arith, drop_of_length-le}
 use Rattle.std.proofs.lemmas.List.Sums.{common_prefix_len-le}
-use Rattle.rv_accept_text.proofs.changed_text.common_prefix_len.Goals as goal
+use Rattle.rv_text.proofs.slices.common_prefix_len.Goals as goal
 
 pub returns-else-len-other : goal.returns-else-len-other
 returns-else-len-other c =
