@@ -15,7 +15,8 @@ ended_as_expected exit expected_end end = did_run end
     && (has_expected_exit exit end
     && (has_expected_end expected_end end && (is_some exit || (is_some expected_end || exits_with 0 end))))
 
--- whether the job exited and specifies only an exit code, or faulted and specifies only a fault; the code and the kind do not matter
+-- whether the run ended as the job expects, whatever the exit code or the kind of fault: it exited, and the job has `expect_exit` but not
+-- `expect_end`; or it faulted, and the job has a fault as `expect_end` but no `expect_exit`
 abbrev pub ended_with_expected_kind : Option ℕ → Option ExpectedEnd → RowEnd → Bool
 ended_with_expected_kind (Some code) None (ending.Exit actual) = true
 ended_with_expected_kind None (Some (expected.Fault kind)) (ending.Fault actual pc value) = true

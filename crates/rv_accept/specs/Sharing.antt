@@ -21,7 +21,7 @@ is_named_by_selected path (job ∷ jobs) [] = false
 is_named_by_selected path (job ∷ jobs) (selected ∷ selection) =
     (selected && names_golden_file path job) || is_named_by_selected path jobs selection
 
--- whether a path is given, and one of the selected jobs names the golden file there
+-- whether a path is given, and one of the selected jobs names the golden file at this path
 abbrev pub is_file_of_selected : List Job → List Bool → Option (List ℕ) → Bool
 is_file_of_selected jobs selection None = false
 is_file_of_selected jobs selection (Some path) = is_named_by_selected path jobs selection

@@ -37,7 +37,8 @@ fn ended_as_expected(job: &Job, ending: RowEnd) -> bool
             || has_expected_exit(Some(0), ending))
 }
 
-// Whether the job exited and specifies only an exit code, or faulted and specifies only a fault; the code and the kind do not matter.
+// Whether the run ended as the job expects, whatever the exit code or the kind of fault: it exited, and the job has `expect_exit` but not
+// `expect_end`; or it faulted, and the job has a fault as `expect_end` but no `expect_exit`.
 fn ended_with_expected_kind(job: &Job, ending: RowEnd) -> bool
     ensures { result ≡ ended_with_expected_kind job.now.expect_exit job.now.expect_end ending }
 {

@@ -98,7 +98,7 @@ fn shares_with_selected(jobs: &[Job], selection: &[bool], job: &Job) -> bool
         || is_file_of_selected(jobs, selection, signature_path(job))
 }
 
-// Whether a path is given, and a selected job names the golden file there.
+// Whether a path is given, and a selected job names the golden file at this path.
 fn is_file_of_selected(jobs: &[Job], selection: &[bool], path: Option<&str>) -> bool
     ensures { result ≡ is_file_of_selected jobs.now selection.now (option_map (λ path. path.now) path.entry) }
 {

@@ -16,7 +16,7 @@ elf_magic = 0x7f ∷ 0x45 ∷ 0x4c ∷ 0x46 ∷ []
 abbrev pub is_image_path : List ℕ → List Job → Bool
 is_image_path path jobs = list_any (λ job. bytes_eq path job.image) jobs
 
--- whether the file's old contents are those of the list or begin as an ELF file does
+-- whether the contents `old` of a file are those of the list or begin as an ELF file does; false for `None`, that is, if there is no file
 abbrev pub has_protected_contents : List ℕ → Option (List ℕ) → Bool
 has_protected_contents list_text None = false
 has_protected_contents list_text (Some old) = bytes_eq old list_text || starts_with nat_eq old elf_magic
@@ -35,7 +35,7 @@ agreed_text_of protected _ = None
 abbrev pub agreed_text : ListFile → GoldenFile → Option (List ℕ)
 agreed_text list file = agreed_text_of (is_protected list file) file.target.outcome
 
--- the text, or `None` if the file has it already
+-- the text, or `None` if the file has it already; its old contents are `None` if there is no file
 abbrev pub text_if_changed : List ℕ → Option (List ℕ) → Option (List ℕ)
 text_if_changed text None = Some text
 text_if_changed text (Some old) = if bytes_eq text old then None else Some text

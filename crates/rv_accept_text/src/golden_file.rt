@@ -71,7 +71,7 @@ impl GoldenFile {
     }
 }
 
-// Returns the text, or `None` if the file has it already.
+// Returns the text, or `None` if the file has it already. `old` is `None` if there is no file.
 fn text_if_changed<'a>(text: &'a [u8], old: &Option<Bytes>) -> Option<&'a [u8]>
     ensures { option_map (λ text. text.now) result ≡ text_if_changed text.now old.now }
 {
@@ -88,7 +88,7 @@ fn is_image_path(path: &str, jobs: &[Job]) -> bool
     jobs.iter().any(|job| path == job.image.as_str())
 }
 
-// Whether the file's old contents are those of the list or begin as an ELF file does.
+// Whether the contents `old` of a file are those of the list or begin as an ELF file does; false for `None`, that is, if there is no file.
 fn has_protected_contents(list_text: &[u8], old: &Option<Bytes>) -> bool
     ensures { result ≡ has_protected_contents list_text.now old.now }
 {

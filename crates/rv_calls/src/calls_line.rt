@@ -111,7 +111,7 @@ fn push_address_text(
     push_symbol_or_address(alloc, bytes, symbol_of(elf, address), address)
 }
 
-// Returns the symbol at a code address with the offset from it, or `None` if there is none.
+// Returns the symbol that a code address belongs to, with the offset of the address from it, or `None` if there is no such symbol.
 fn symbol_of<'a>(elf: &ElfFile<'a>, address: u32) -> Option<SymbolAt<'a>>
     ensures { option_map (λ s. (s.name.now, s.offset)) result
         ≡ symbol_at elf.now.image.now elf.now.bytes.now address }

@@ -25,7 +25,8 @@ pub type Frames = Sequence<Frame>;
 /// The maximum number of frames. A call at this depth counts as a jump.
 pub const MAX_FRAMES: usize = 4096;
 
-/// Applies a transfer of control to the frames: pops frames if it returns, and then pushes one if it calls.
+/// Applies a transfer of control to the frames: pops frames if it returns, and then pushes one if it calls and fewer than [`MAX_FRAMES`]
+/// frames remain.
 #[tactic(auto, unfolding(crate::specs::Stack::after_transfer))]
 pub fn apply_transfer(frames: &mut Vec<Frame>, transfer: Transfer) -> Result<(), AllocError>
     ensures { OnOk result (frames.new.items ≡ after_transfer frames.old.items transfer) }

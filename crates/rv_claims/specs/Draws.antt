@@ -94,8 +94,8 @@ empty_view = view 0 [] [] []
 
 -- ---- the rule
 
--- the view of a seat is valid: its pass indices are below 64, each of its draws was made under one of them, at most one draw for each index
--- is past the last chunk, and the draws that it has noted are in the history
+-- the view of a seat is valid: its pass indices are below 64, each of its draws was made under one of them, the number of its draws past the
+-- last chunk is at most the number of its indices, and the draws that it has noted are in the history
 pub record Fits (pieces : ℕ) (history : List Entry) (v : View) : Type 0 where
   pub pass_indices : (p : ℕ) → IsIn p v.pass_indices → p < 64
   pub own : (e : Entry) → IsIn e v.draws → IsIn e.pass_index v.pass_indices

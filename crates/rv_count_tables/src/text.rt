@@ -86,7 +86,8 @@ pub(crate) struct FunctionFields {
     pub(crate) name: Text,
 }
 
-// Returns a map from each function to its fields in the lines of nodes. If a function has several names, the first one is used.
+// Returns a map from the address of each function to the fields that the lines of all its nodes share. If a function has several names, the
+// first one is used.
 fn index_of_functions(
     alloc: Global,
     names: &[FunctionName],

@@ -21,11 +21,11 @@ doubled_quote byte = if byte == 34 then 34 ∷ 34 ∷ [] else byte ∷ []
 abbrev pub with_doubled_quotes : List ℕ → List ℕ
 with_doubled_quotes field = flat_map doubled_quote field
 
--- a field of a CSV row: if it has a special byte, it is put in quotes, and its own quotes are doubled
+-- a field of a CSV row: if it has a comma, a quote, a line feed or a carriage return, it is put in quotes, and its own quotes are doubled
 unfoldable pub csv_field : List ℕ → List ℕ
 csv_field field = if list_any is_special field then codes "\"" ++ with_doubled_quotes field ++ codes "\"" else field
 
--- the fields of a row for the numbers of functions
+-- the fields of a row for functions: how many there are, and how many ran
 unfoldable pub csv_functions : CoverageTotals → List ℕ
 csv_functions totals = codes "," ++ decimal totals.functions ++ codes "," ++ decimal totals.functions_run
 

@@ -15,7 +15,7 @@ right_aligned width number = replicate (width - length (decimal number)) 32 ++ d
 unfoldable pub cover_header : List ℕ
 cover_header = codes "   functions run        instructions run  branches both ways   one way     never  image\n"
 
--- the columns for the numbers of functions
+-- the columns for functions: how many ran, and how many there are
 unfoldable pub function_columns : CoverageTotals → List ℕ
 function_columns totals = right_aligned 6 totals.functions_run ++ codes " of " ++ right_aligned 6 totals.functions
 

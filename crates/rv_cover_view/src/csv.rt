@@ -35,7 +35,7 @@ pub fn push_csv_row(
     push_text(bytes, "\n")
 }
 
-// Appends the fields for the numbers of functions.
+// Appends the fields for functions: how many there are, and how many ran.
 #[tactic(auto, unfolding(crate::specs::Csv::csv_functions))]
 fn push_csv_functions(bytes: &mut Vec<u8>, totals: &CoverageTotals) -> Result<(), AllocError>
     ensures { OnOk result (bytes.new.items ≡ bytes.old.items ++ csv_functions totals.now) }
@@ -85,7 +85,7 @@ fn push_csv_branches(bytes: &mut Vec<u8>, totals: &CodeTotals) -> Result<(), All
     )
 }
 
-/// Appends a field. A field that has a special byte is put in quotes, and its own quotes are doubled.
+/// Appends a field. If it has a comma, a quote, a line feed or a carriage return, it is put in quotes, and its own quotes are doubled.
 #[tactic(auto, unfolding(crate::specs::Csv::csv_field))]
 pub fn push_csv_field(bytes: &mut Vec<u8>, field: &[u8]) -> Result<(), AllocError>
     ensures { OnOk result (bytes.new.items ≡ bytes.old.items ++ csv_field field.now) }

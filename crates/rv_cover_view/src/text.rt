@@ -64,7 +64,7 @@ fn push_further_names(bytes: &mut Vec<u8>, functions: &[Function<'_>]) -> Result
     Ok(())
 }
 
-// Appends the columns for the numbers of functions.
+// Appends the columns for functions: how many ran, and how many there are.
 #[tactic(auto, unfolding(crate::specs::Text::function_columns))]
 fn push_function_columns(
     alloc: Global,

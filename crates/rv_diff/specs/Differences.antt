@@ -30,7 +30,7 @@ ending_text (ending.Refused refusal) = codes "refused " ++ refusal_name refusal
 abbrev pub becomes : List ℕ → List ℕ → List ℕ
 becomes old new = old ++ codes " -> " ++ new
 
--- a value in double quotes, with special characters escaped
+-- a value in double quotes: printable, and cut off if it is long
 abbrev pub value_in_quotes : List ℕ → List ℕ
 value_in_quotes value = codes "\"" ++ printable_value value ++ codes "\""
 

@@ -97,8 +97,8 @@ unfoldable pub diff_line : List ℕ → List ℕ → List ℕ → List ℕ
 diff_line margin own other =
     line (margin ++ shown_line (common_prefix_len nat_eq own other) (before_first is_line_feed own)) ++ missing_newline_note own
 
--- the first `count` of the lines `own`, each after a margin; a long line is shown around its first difference from the line of `other` with
--- the same index
+-- the first `count` of the lines `own`, or all if there are fewer, each after a margin; a long line is shown around its first difference from
+-- the line of `other` with the same index
 unfoldable pub diff_lines : List ℕ → ℕ → List (List ℕ) → List (List ℕ) → List ℕ
 diff_lines margin zero own other = []
 diff_lines margin (suc count) [] other = []

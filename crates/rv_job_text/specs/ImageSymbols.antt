@@ -12,18 +12,20 @@ use Rattle.rv_rows.specs.declared_row.RowEnd.TheVariants as ending
 
 -- ---- the symbol of a fault
 
--- the symbol that an address belongs to, with the offset from it, or `None` if there is no such symbol or the file is not a valid image
+-- the symbol that an address belongs to, with the offset of the address from it, or `None` if there is no such symbol or the file is not a
+-- valid image
 abbrev pub symbol_in_image : Result Image ImageError → List ℕ → ℕ → Option (List ℕ × ℕ)
 symbol_in_image (Ok image) file address = symbol_at image file address
 symbol_in_image (Err error) file address = None
 
--- the symbol that an address belongs to, with the offset from it, or `None` if there is no such symbol, no file, or the file is not a valid
--- image
+-- the symbol that an address belongs to, with the offset of the address from it, or `None` if there is no such symbol, no file, or the file
+-- is not a valid image
 unfoldable pub symbol_in_file : Isa → Option (List ℕ) → ℕ → Option (List ℕ × ℕ)
 symbol_in_file isa None address = None
 symbol_in_file isa (Some file) address = symbol_in_image (image_of isa file) file address
 
--- the symbol that the pc of a fault belongs to, with the offset from it, or `None` if there is none or the run did not end with a fault
+-- the symbol that the pc of a fault belongs to, with the offset of the pc from it, or `None` if there is none or the run did not end with a
+-- fault
 unfoldable pub fault_symbol : Isa → Option (List ℕ) → RowEnd → Option (List ℕ × ℕ)
 fault_symbol isa file (ending.Fault kind pc value) = symbol_in_file isa file pc
 fault_symbol isa file _ = None

@@ -69,7 +69,8 @@ abbrev pub end_trace_if_requested : PlanView → Job → Row → Option ℕ → 
 end_trace_if_requested plan job row None = []
 end_trace_if_requested plan job row (Some last) = end_trace_lines plan job row last
 
--- the lines of these unmet expectations and, if the first argument says so, of the met ones
+-- the lines of these unmet expectations and, if the first argument says so, of the met ones; `address` is the address of the signature's
+-- first word, if it is known
 abbrev pub compared_lines : Detail → Option ℕ → ComparisonView → List UnmetExpectation → List ℕ
 compared_lines detail.UnmetExpectation address comparison unmet = unmet_lines address comparison unmet
 compared_lines detail.All address comparison unmet =

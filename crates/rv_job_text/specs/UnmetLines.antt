@@ -1,5 +1,5 @@
 -- The lines of an unmet expectation: what was expected, what was found, and where they first differ. Bytes and words are counted from 0,
--- lines from 1.
+-- lines from 1. The arguments `first` and `address` are the address of the signature's first word, or `None` if it is not known.
 use Rattle.std.specs.Prelude.{◌+◌, ◌*◌, ◌/◌, ◌%◌, ◌^◌, ℕ, List, [], ◌++◌, length, drop}
 use Rattle.std.specs.Prelude.{slice_index, slice_range, Option, Some, None, unwrap_or}
 use Rattle.std.specs.Prelude.{if◌then◌else◌, nat_lt, codes}
@@ -43,7 +43,7 @@ expected_end_text (Some (expected.Fault kind)) = codes "fault " ++ fault_name ki
 
 -- ---- bytes
 
--- the value in double quotes, with special characters escaped
+-- the value in double quotes: printable, and cut off if it is long
 abbrev pub quoted_value : List ℕ → List ℕ
 quoted_value value = codes "\"" ++ printable_value value ++ codes "\""
 
@@ -190,16 +190,17 @@ unmet_margin (unmet.Console difference) = codes "     "
 unmet_margin (unmet.Signature difference) = codes "     "
 unmet_margin _ = codes "     expected: "
 
--- the lines of an unmet expectation: the differing lines if the expected text is given, and otherwise a single line
+-- the lines of an unmet expectation: the differing lines if the expected text is given, and otherwise a single line; `address` is the address
+-- of the signature's first word, if it is known
 abbrev pub unmet_line_with : Option ℕ → ComparisonView → UnmetExpectation → Option NamedText → List ℕ
 unmet_line_with address comparison unmet None =
     line (unmet_margin unmet ++ unmet_expectation_text address comparison unmet)
 unmet_line_with address comparison unmet (Some expected) = console_lines expected.source comparison.row.console expected.text
 
--- the lines of an unmet expectation
+-- the lines of an unmet expectation; `address` is the address of the signature's first word, if it is known
 unfoldable pub unmet_line : Option ℕ → ComparisonView → UnmetExpectation → List ℕ
 unmet_line address comparison unmet = unmet_line_with address comparison unmet (expected_by_lines comparison unmet)
 
--- the lines of the unmet expectations, in order
+-- the lines of the unmet expectations, in order; `address` is the address of the signature's first word, if it is known
 abbrev pub unmet_lines : Option ℕ → ComparisonView → List UnmetExpectation → List ℕ
 unmet_lines address comparison unmet = flat_map (unmet_line address comparison) unmet

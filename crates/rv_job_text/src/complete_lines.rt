@@ -1,4 +1,4 @@
-//! The lines of a text, each with its line feed.
+//! The lines of a text, each with its line feed. A last line without a line feed is a line, too.
 
 ghost use Rattle.std.specs.Prelude.{◌≡◌, ◌≤◌, ◌<◌, [], ◌∷◌, length};
 ghost use Rattle.std.specs.List.{position_or_len};

@@ -98,8 +98,8 @@ fn push_differing_lines(
     push_diff_lines(bytes, "     + ", count, actual, expected)
 }
 
-// Appends the first `count` lines of the text `own`, each after a margin. A long line is shown around its first difference from the line of
-// `other` with the same index.
+// Appends the first `count` lines of the text `own`, or all if there are fewer, each after a margin. A long line is shown around its first
+// difference from the line of `other` with the same index.
 fn push_diff_lines(
     bytes: &mut Vec<u8>,
     margin: &'static str,

@@ -30,7 +30,8 @@ pub(crate) fn push_unmet_lines(
     Ok(())
 }
 
-// Appends the lines of an unmet expectation: the differing lines of a console if these can be shown, and otherwise a single line.
+// Appends the lines of an unmet expectation: the differing lines of a console if these can be shown, and otherwise a single line. `address`
+// is the address of the signature's first word, if it is known.
 #[tactic(auto, unfolding(crate::specs::UnmetLines::unmet_line))]
 fn push_unmet_line(
     bytes: &mut Vec<u8>,
@@ -49,7 +50,7 @@ fn push_unmet_line(
     }
 }
 
-// Appends the single line of an unmet expectation.
+// Appends the single line of an unmet expectation. `address` is the address of the signature's first word, if it is known.
 fn push_expected_line(
     bytes: &mut Vec<u8>,
     comparison: &Comparison<'_, '_>,

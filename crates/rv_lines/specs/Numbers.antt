@@ -25,7 +25,8 @@ abbrev pub number_or : UnitError → Option (ℕ × List ℕ) → Read ℕ
 number_or cut None = Err cut
 number_or cut (Some n) = if nat_lt n.0 (2 ^ 32) then Ok n else Err Number
 
--- the unsigned LEB128 number at the front of the bytes, which must be below 2^32
+-- the unsigned LEB128 number at the front of the bytes, and the bytes after it; or an error: `cut` if it has no end, `Number` if it is not
+-- below 2^32
 unfoldable pub number_at : UnitError → List ℕ → Read ℕ
 number_at cut bytes = number_or cut (unsigned_leb bytes)
 
@@ -39,7 +40,8 @@ abbrev pub signed_or : UnitError → Option (ℤ × List ℕ) → Read ℕ
 signed_or cut None = Err cut
 signed_or cut (Some n) = modulo_or n.0 n.1
 
--- the signed LEB128 number at the front of the bytes, which must be from -2^31 to 2^31 - 1, modulo 2^32
+-- the signed LEB128 number at the front of the bytes, modulo 2^32, and the bytes after it; or an error: `cut` if it has no end, `Number` if
+-- it is not from -2^31 to 2^31 - 1
 unfoldable pub signed_at : UnitError → List ℕ → Read ℕ
 signed_at cut bytes = signed_or cut (signed_leb bytes)
 

@@ -47,7 +47,8 @@ pub record UnitRead : Type 0 where
   pub offset : ℕ
   pub rows : Result (List Row) UnitError
 
--- at most `most` units, from an offset of the section on; each has at least one byte, so there are no more than bytes
+-- the first `most` units in `bytes`, the rest of the section from `offset` on; each unit has at least one byte, so there are no more units
+-- than bytes
 unfoldable pub units : ℕ → Strings → ℕ → List ℕ → List UnitRead
 units zero strings offset bytes = []
 units (suc most) strings offset [] = []

@@ -126,7 +126,8 @@ pub(crate) fn string_of_form<'a>(
     }
 }
 
-// Reads the offset of a string, and returns the string at this offset of the section, or the error `EntryText` if there is none.
+// Reads the offset of a string, and returns the string at this offset of the section and the bytes after the offset, or the error
+// `EntryText` if there is no string.
 #[tactic(auto, unfolding(crate::specs::Entries::offset_string_at))]
 fn offset_string_at<'a>(
     section: &'a [u8],

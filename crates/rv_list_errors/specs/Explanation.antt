@@ -98,13 +98,14 @@ region_number_text index = codes "region " ++ decimal (index + 1)
 
 -- ---- names
 
--- the suggestion for an unknown job name: the nearest name, if one is given, or else all names in the list, which are those of the earlier
--- jobs
+-- the suggestion for an unknown job name: the nearest name, if one is given, or else the first names in the list, at most
+-- `max_listed_names`; the list has the names of the earlier jobs
 abbrev pub nearest_job_text : List (Option (List ℕ)) → Option (List ℕ) → List ℕ
 nearest_job_text names (Some name) = codes "; a similar name exists: " ++ quoted name
 nearest_job_text names None = codes "; the earlier jobs are " ++ names_text (present names)
 
--- `message` suggests the name that is nearest to the unknown name `expected`, or lists all names if none is near
+-- `message` suggests the name that is nearest to the unknown name `expected`, or, if none is near, lists the first names, at most
+-- `max_listed_names`
 abbrev pub IsJobNameSuggestion : List (Option (List ℕ)) → List ℕ → List ℕ → Type 0
 IsJobNameSuggestion names expected message =
     (near : Option (List ℕ)) × IsNearName names expected near × (message ≡ nearest_job_text names near)

@@ -54,7 +54,7 @@ pub(crate) enum Suggestion {
 }
 
 /// Appends that `same_as` of the job at an index is not the name of an earlier job. If a suggestion is requested and no job has this name,
-/// appends the nearest name of an earlier job, or the names of all earlier jobs if none is near.
+/// appends the nearest name of an earlier job, or, if none is near, the names of earlier jobs, at most `MAX_LISTED_NAMES`.
 pub(crate) fn push_unknown_same_as(
     message: &mut Message,
     list: &List<'_>,
@@ -83,8 +83,9 @@ pub(crate) fn push_unknown_same_as(
     }
 }
 
-// Appends the name that is nearest to `name` among the jobs before index `job_index`, or all names of these jobs if none is near. Appends
-// nothing if some job has the name `name`, or if no job is before the index.
+// Appends the name that is nearest to `name`, or to an empty text for `None`, among the jobs before index `job_index`. If none is near,
+// appends the names of these jobs, at most `MAX_LISTED_NAMES`. Appends nothing if some job has the name `name`, or if no job is before the
+// index.
 fn push_nearest_job(message: &mut Message, list: &List<'_>, name: Option<&str>, job_index: usize)
     ensures { AppendsTextThat message.old message.new (BeginsWith []) }
 {
@@ -104,7 +105,7 @@ fn first_names<'n, 'a>(names: &'n [Option<&'a str>], count: usize) -> &'n [Optio
     &names[..count.min(names.len())]
 }
 
-// Appends the name that is nearest to an unknown one, or all names if none is near.
+// Appends the name that is nearest to the unknown name `text`, or, if none is near, the first names, at most `MAX_LISTED_NAMES`.
 fn push_nearest_name(message: &mut Message, names: &[Option<&str>], text: &str)
     ensures { AppendsTextThat message.old message.new (IsJobNameSuggestion (borrowed_names names.now) text.now) }
 {

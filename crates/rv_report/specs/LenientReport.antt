@@ -240,7 +240,8 @@ with_finished_row verdict state =
 abbrev pub with_stage_done : ReaderStateView → ReaderStateView
 with_stage_done state = record state { stage = stage.Done }
 
--- the state after a line between rows: the first line of a row, unless there are too many, or the last line of the report
+-- the state after a line between rows: the first line of a row, or the last line of the report; any other line, or a row too many, ends the
+-- reading
 unfoldable pub after_job_or_last_line : List ℕ → ReaderStateView → ReaderStateView
 after_job_or_last_line line state =
     if (slice_index line 0 == 106) && nat_lt (length state.rows) max_jobs then
@@ -248,27 +249,28 @@ after_job_or_last_line line state =
     else if slice_index line 0 == 112 then with_stage_done (record state { extent = part_extent_of_line line })
     else with_stage_done state
 
--- the state after the line that should have the ending of a row
+-- the state after the line that should have the ending of a row; any other line ends the reading
 unfoldable pub after_end_line : List ℕ → ReaderStateView → ReaderStateView
 after_end_line line state =
     if slice_index line 0 == 101 then record state { ending = row_ending_of_line line; stage = stage.Steps }
     else with_stage_done state
 
--- the state after the line that should have the steps of a row
+-- the state after the line that should have the steps of a row; any other line ends the reading
 unfoldable pub after_steps_line : List ℕ → ReaderStateView → ReaderStateView
 after_steps_line line state =
     if (slice_index line 0 == 115) && (slice_index line 1 == 116) then
     record state { steps = decimal_number (drop 6 line); stage = stage.Console }
     else with_stage_done state
 
--- the state after the line that should have the console of a row
+-- the state after the line that should have the console of a row; any other line ends the reading
 unfoldable pub after_console_line : List ℕ → ReaderStateView → ReaderStateView
 after_console_line line state =
     if slice_index line 0 == 99 then
     record state { console = hex_bytes (drop 8 line); stage = stage.Signature }
     else with_stage_done state
 
--- the state after the line that should have the number of words of a row's signature; a dash, for no signature, is read as 0 words
+-- the state after the line that should have the number of words of a row's signature; a dash, for no signature, is read as 0 words; any other
+-- line, or a number above `max_words`, ends the reading
 unfoldable pub after_signature_line : List ℕ → ReaderStateView → ReaderStateView
 after_signature_line line state =
     if ((slice_index line 0 == 115) && (slice_index line 1 == 105))
@@ -281,7 +283,8 @@ after_signature_line line state =
     }
     else with_stage_done state
 
--- the state after a line that should be a word of the signature or, once all words have been read, the verdict
+-- the state after a line that should be a word of the signature or, once all words have been read, the verdict; any other line ends the
+-- reading
 unfoldable pub after_word_or_verdict_line : List ℕ → ReaderStateView → ReaderStateView
 after_word_or_verdict_line line state =
     if is_hex_word line && nat_lt (length state.words) state.count then

@@ -131,8 +131,8 @@ pub record IsRequestedMoveMade (end_text : List ℕ) (may_break : Bool) (session
   pub out_is : out ≡ packets_of reply
   pub next_is : next ≡ with_sent after_reply reply
 
--- whether an interrupt may end a move that is made before these bytes are received: the first of them is 0x03, which gdb sends for Ctrl-C;
--- `default` if there are none
+-- whether an interrupt may end a move, given the bytes that follow the request for the move: it may if the first of them is 0x03, which gdb
+-- sends for Ctrl-C; `default` if no bytes follow
 abbrev pub is_interrupted : List ℕ → Bool → Bool
 is_interrupted [] default = default
 is_interrupted (byte ∷ rest) default = byte == 3

@@ -70,8 +70,8 @@ sign_mark byte = if is_minus byte then mark.Red else if is_plus byte then mark.G
 abbrev pub word_mark : ℕ → Mark
 word_mark byte = if begins_fail byte then mark.Red else if begins_pass byte then mark.Green else sign_mark byte
 
--- the change of color before the first byte of a line that is not a space: as for a word without spaces before it, as for a sign after
--- `margin` spaces, and otherwise none
+-- the change of color before the first byte of a line that is not a space, given the number of spaces before it: `word_mark` if there are
+-- none, `sign_mark` if there are `margin`, and otherwise no change
 abbrev pub margin_mark : ℕ → ℕ → Mark
 margin_mark spaces byte =
     if spaces == 0 then word_mark byte else if spaces == margin then sign_mark byte else mark.Nothing

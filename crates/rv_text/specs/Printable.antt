@@ -9,7 +9,7 @@ use Rattle.std.specs.Str.{IsUtf8, chars, continuation_len, is_utf8}
 use Rattle.hex.specs.Hex.{encode_lower}
 
 -- whether a text begins with a control character: U+0000 to U+001F, U+007F, or U+0080 to U+009F, which UTF-8 encodes as 0xC2 and a byte
--- below 0xA0
+-- below 0xA0; also true for the empty text
 abbrev pub begins_with_control : List ℕ → Bool
 begins_with_control text = let first = slice_index text 0 in
     nat_lt first 0x20 || first == 0x7F || (first == 0xC2 && nat_lt (slice_index text 1) 0xA0)

@@ -125,7 +125,7 @@ pub fn is_utf8(text: &[u8]) -> bool
     }
 }
 
-// Whether the text begins with a control character.
+// Whether the text begins with a control character; also true for the empty text.
 fn begins_with_control(text: &[u8]) -> bool
     ensures { result ≡ begins_with_control text.now }
 {

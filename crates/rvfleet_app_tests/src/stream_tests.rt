@@ -13,7 +13,7 @@ struct CountingWriter {
 }
 
 impl Write for CountingWriter {
-    // Counts the write, and accepts at most four bytes, or fails if this is the write that fails.
+    // Counts the write. Fails if it is the write number `fails_at`, counted from 1, and otherwise accepts at most four bytes.
     fn write(&mut self, bytes: &[u8]) -> io::Result<usize> {
         self.writes = self.writes.saturating_add(1);
         if self.writes == self.fails_at {

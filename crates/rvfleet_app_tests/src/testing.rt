@@ -50,7 +50,7 @@ impl Sink for MemorySink {
 
     ghost failure_count = { λ sink. sink.failures };
 
-    // Accepts the first bytes, or fails if this is the write that fails.
+    // Accepts the first bytes, at most `most` (or 1 if `most` is 0). Fails once, after `fails_after` successful writes.
     fn put(&mut self, bytes: &[u8]) -> Result<usize, SinkFailed> {
         let count = bytes.len().min(self.most.max(1));
         let fails = self.puts == self.fails_after && self.failures == 0;
@@ -77,7 +77,8 @@ struct MemoryReader<'a> {
 }
 
 impl<'a> Read for MemoryReader<'a> {
-    // Copies the next bytes of the input to the buffer, and returns how many; at the end of the input, fails if requested.
+    // Copies the next bytes of the input to the buffer, at most `most`, and returns how many; at the end of the input, fails if `fails` is
+    // true.
     fn read(&mut self, buffer: &mut [u8]) -> io::Result<usize> {
         let count = self.bytes.len().min(buffer.len()).min(self.most);
         if count == 0 && self.fails {

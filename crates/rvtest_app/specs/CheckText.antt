@@ -53,7 +53,8 @@ job_prefix severity path lines index job =
 abbrev pub refusal_text : Refusal → Option (List ℕ) → List ℕ
 refusal_text refusal reason = codes "refused " ++ refusal_name refusal ++ optional_reason_text reason
 
--- the error line for a file that is a reason why the job at index `index` is refused, with the refusal and, if it is given, the reason
+-- the error line for the job at index `index`, which is refused because of one of its files: the name of the refusal and, if it is given, the
+-- detailed reason
 unfoldable pub refused_file_line : List ℕ → List ℕ → ℕ → Job → Refusal → Option (List ℕ) → List ℕ
 refused_file_line path lines index job refusal reason = line (job_prefix (codes ": error:") path lines index job ++ refusal_text refusal reason)
 

@@ -99,13 +99,14 @@ IsListStop contents args stop = IsListUnreadStop contents args.list.now stop
 abbrev pub IsAcceptStop : Option FileContents → AcceptArgs → Stop → Type 0
 IsAcceptStop contents args stop = IsListStop contents args.run stop ⊎ IsUnacceptedStop contents args stop
 
--- why `diff` stopped: the old report could not be read, or it was read but the new one could not be
+-- why `diff` stopped: the old report could not be read or is invalid, or it was read, but the new one could not be read or is invalid
 abbrev pub IsDiffAtStop : Option FileContents → DiffArgs → Stop → Type 0
 IsDiffAtStop contents args stop = IsRequestedUnreadStop contents args.partial args.old.now stop
     ⊎ ((old_report : PartialReport) × (IsReportReadAt contents args.partial args.old.now old_report
     × IsRequestedUnreadStop contents args.partial args.new.now stop))
 
--- why `show` stopped: the JUnit file would overwrite the report, the report could not be read, or the output could not be written
+-- why `show` stopped: the JUnit file would overwrite the report, the report could not be read or is invalid, or the output could not be
+-- written
 abbrev pub IsShowStop : Option FileContents → ShowArgs → Stop → Type 0
 IsShowStop contents args stop = IsShowOverwriteStop args stop ⊎ (IsRequestedUnreadStop contents args.partial args.report.now stop
     ⊎ ((report : PartialReport) × (IsReportReadAt contents args.partial args.report.now report

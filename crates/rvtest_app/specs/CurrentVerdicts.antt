@@ -42,8 +42,8 @@ abbrev pub IsGoldenText : Option FileContents → Option (List ℕ) → Option (
 IsGoldenText contents root None text = text ≡ None
 IsGoldenText contents root (Some path) text = AreContentsUpToLimit contents (resolved_path root path) text
 
--- the path of a golden file if the file must be read to decide whether the job is skipped; `None` if the job ended as expected: then the
--- file need not be read, and the verdict will not be `Passes`, even if the file matches
+-- `path`, the path of a golden file, if the file must be read to decide whether the job is skipped; `None` if the job ended as expected: then
+-- the file is not read and counts as missing, whatever it contains
 abbrev pub path_to_read : Job → Row → Option (List ℕ) → Option (List ℕ)
 path_to_read job row path = if is_accepted_end acceptance.Expected job row.ending then None else path
 

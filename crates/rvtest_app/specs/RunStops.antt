@@ -68,8 +68,8 @@ abbrev pub IsRunWriteStop : RunArgs → Stop → Type 0
 IsRunWriteStop args stop = IsRowsWriteStop args stop
     ⊎ (IsFileStop (file_path_at (optional_text args.counts)) stop ⊎ IsStackSumStop args stop)
 
--- why `run` stopped although there are jobs to run: no thread could be started, an output could not be written, or the counts with call
--- stacks could not be added up
+-- why `run` stopped after the jobs to run were determined: no thread could be started, an output could not be written, or the counts with
+-- call stacks could not be added up
 abbrev pub IsRunUnfinishedStop : Option FileContents → RunArgs → Stop → Type 0
 IsRunUnfinishedStop contents args stop = AreJobsToRun contents args × IsRunWriteStop args stop
 

@@ -63,7 +63,8 @@ pub record AreRequestedJobs (contents : Option FileContents) (args : RunArgs) (j
   pub selected : IsRequestedSelection contents shard args jobs selection notes
   pub into : AreOldRows contents args jobs old_rows
 
--- the requested jobs and the known failures were determined, and at least one job is to run
+-- the requested jobs and the known failures were determined, and there is a selection of the jobs to run; it can be empty, for example for a
+-- shard without jobs
 pub record AreJobsToRun (contents : Option FileContents) (args : RunArgs) : Type 0 where
   pub jobs : List Job
   pub selection : List Bool

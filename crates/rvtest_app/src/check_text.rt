@@ -83,7 +83,7 @@ impl<'a> CheckedList<'a> {
         }
     }
 
-    // Appends a line for each file that is a reason why the job at index `index` is refused.
+    // Appends an error line for each file because of which the job at index `index` is refused.
     #[tactic(auto, unfolding(crate::specs::CheckText::refused_files_text))]
     fn push_refused_files(
         &self,
@@ -160,7 +160,8 @@ impl<'a> CheckedList<'a> {
         }
     }
 
-    // Appends the line for a file that is a reason why the job at index `index` is refused.
+    // Appends the error line for the job at index `index`, which is refused because of one of its files: the name of the refusal and, if it
+    // is given, the detailed reason.
     #[tactic(auto, unfolding(crate::specs::CheckText::refused_file_line))]
     fn push_refused_file(
         &self,

@@ -177,8 +177,8 @@ fn is_selected(selection: &[bool], index: usize) -> bool
     }
 }
 
-// Returns the path of a golden file if the file must be read to decide whether the job is skipped. If the job ended as expected, it need
-// not be read: then returns `None`, and the verdict will not be `Passes`, even if the file matches.
+// Returns `path`, the path of a golden file, if the file must be read to decide whether the job is skipped. If the job ended as expected,
+// returns `None`: then the file is not read and counts as missing, whatever it contains.
 fn path_to_read<'a>(job: &Job, row: &Row, path: Option<&'a str>) -> Option<&'a str>
     ensures { option_map (λ path. path.now) result
         ≡ path_to_read job.now row.now (option_map (λ path. path.now) path.entry) }

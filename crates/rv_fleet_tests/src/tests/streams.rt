@@ -103,7 +103,8 @@ impl<'a> Sink for RecordingSink<'a> {
 
     ghost failure_count = { λ sink. sink.failures };
 
-    // Accepts the first bytes and records how many rows have been reported, or fails if this is the write that fails.
+    // Records how many rows have been reported. Fails if this is the write number `fails_at`, counted from 1, and otherwise accepts the first
+    // bytes.
     fn put(&mut self, bytes: &[u8]) -> Result<usize, SinkFailed> {
         let requested = self.requested.load(Ordering::SeqCst);
         let _ = write!(self.notes, " {requested}");
