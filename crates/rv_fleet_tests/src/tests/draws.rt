@@ -122,7 +122,11 @@ fn split_and_merge(
 }
 
 // Splits a pass and joins the two again until no pass index is left. Appends the number of splits, and returns the pass.
-fn fill(text: &mut String, claims: &Claims, mut pass: Pass) -> Result<Pass, AllocError>
+fn use_all_pass_indices(
+    text: &mut String,
+    claims: &Claims,
+    mut pass: Pass,
+) -> Result<Pass, AllocError>
     requires { pass.draw ≡ claims.now }
     ensures { IfOk result (λ pass. pass.draw ≡ claims.now) }
 {
@@ -146,7 +150,7 @@ fn handle_pass(text: &mut String, claims: &Claims, pass: Pass, line: &str) -> Re
 {
     match cell_of(line, 4) {
         "alone" => Ok(pass),
-        "fill" => Ok(fill(text, claims, pass)?),
+        "fill" => Ok(use_all_pass_indices(text, claims, pass)?),
         end => split_and_merge(text, claims, pass, cell_of(line, 3), end),
     }
 }
@@ -275,7 +279,7 @@ fn draw_all_in_four<R: Threads + Sync>(
 }
 
 // Whether the numbers are 0, 1, 2 and so on, each once, in any order.
-fn are_each_once(mut numbers: Vec<u64>) -> bool {
+fn are_all_indices_once(mut numbers: Vec<u64>) -> bool {
     if numbers.sort().is_err() {
         return false;
     }
@@ -300,6 +304,6 @@ pub(super) fn four_threads_text<R: Threads + Sync>(rt: &R, alloc: Global) -> Res
     let ended = pass.ended();
     let finished = claims.finish(pass);
     let count = numbers.len();
-    let once = are_each_once(numbers);
+    let once = are_all_indices_once(numbers);
     Ok(format!(in alloc; "{count} {once} {ended} {finished}")?)
 }

@@ -129,17 +129,17 @@ fn computed_pieces<R: Threads>(
     })
 }
 
-// Appends the number and the rows of a chunk: the one at index `wanted_index` if one worker drew all chunks (`alone`), else the one with
+// Appends the number and the rows of a chunk: the one at `index` if one worker drew all chunks (`alone`), else the one with
 // this number.
 fn push_piece(
     text: &mut String,
     pieces: &[Piece],
-    wanted_index: u64,
+    index: u64,
     alone: bool,
 ) -> Result<(), AllocError> {
-    for (index, piece) in pieces.iter().enumerate() {
+    for (position, piece) in pieces.iter().enumerate() {
         let number = piece.number;
-        if wanted_index == if alone { index as u64 } else { number } {
+        if index == if alone { position as u64 } else { number } {
             write!(text, " {number}:")?;
             push_rows(text, piece.rows.as_slice())?;
         }
