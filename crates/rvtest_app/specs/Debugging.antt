@@ -69,7 +69,7 @@ pub record IsSessionOpenedAt (contents : Option FileContents) (args : GdbArgs) (
 -- which is not a terminal
 pub record IsGdbServed (contents : Option FileContents) (is_terminal : Bool) (args : GdbArgs) (input rest : Option (List ℕ))
     (status : ℕ) (before after : CommandOutputs) : Type 0 where
-  pub is_no_terminal : is_terminal ≡ false
+  pub is_not_terminal : is_terminal ≡ false
   pub end_text : List ℕ
   pub first : Session
   pub opened : IsSessionOpenedAt contents args end_text first

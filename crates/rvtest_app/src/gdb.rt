@@ -44,7 +44,7 @@ struct JobSession {
 /// Debugs the run of the job with the requested name. Reads gdb's packets from `input` and writes the replies to standard output, until gdb
 /// ends the session or its input ends. A command of gdb that runs the job is interrupted only by Ctrl-C or the end of the input. The status
 /// is 0. It is an error if standard output is a terminal.
-pub(crate) fn show_job_to_gdb<
+pub(crate) fn debug_named_job<
     R: Threads,
     D: Inputs,
     I: Read + Send,

@@ -1,7 +1,7 @@
 use Rattle.std.proofs.Common.{◌∙◌, [], append-nil, ap, sym}
 use Rattle.rv_terminal.specs.Colors.{InText, colored, uncolored}
 use Rattle.rv_terminal.proofs.Sequences.{text_out}
-use Rattle.rv_terminal.proofs.law.colors_can_be_taken_out.Goals as goal
+use Rattle.rv_terminal.proofs.law.colors_can_be_removed.Goals as goal
 
 pub returns : goal.returns
 unfolding uncolored

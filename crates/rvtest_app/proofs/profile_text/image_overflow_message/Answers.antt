@@ -1,5 +1,5 @@
 use Rattle.std.proofs.Common.{append-nil, append_assoc}
-use Rattle.rvtest_app.proofs.profile_text.past_64_bits_message.Goals as goal
+use Rattle.rvtest_app.proofs.profile_text.image_overflow_message.Goals as goal
 
 pub returns : goal.returns
 returns c =

@@ -6,11 +6,11 @@ use Rattle.rvtest_cli.specs.RvtestArgs.{help_command_args, is_command_help, is_h
 use Rattle.rvtest_cli.specs.ArgsErrors.{FailsByKinds}
 use Rattle.rvtest_cli.proofs.RvtestReading.{few_words, help_kinds, help_misused, help_of_three, help_of_two, help_value, help_within}
 use Rattle.rvtest_cli.proofs.RvtestReading.{many_words, other_of_three, other_of_two, plain_kinds, plain_misused, plain_value}
-use Rattle.rvtest_cli.proofs.requests.read_words.Given.{Over}
-use Rattle.rvtest_cli.proofs.requests.read_words.Goals as goal
-use Rattle.rvtest_cli.proofs.requests.read_words.Goals.{in_default-via-then-args-lt2, in_default-via-in-len2+else-is_help}
-use Rattle.rvtest_cli.proofs.requests.read_words.Goals.{in_default-via-in-len3+else-is_command_help}
-use Rattle.rvtest_cli.proofs.requests.read_words.Goals.{in_default-via-else-args-lt2+else-args-lt3+else-args-lt4}
+use Rattle.rvtest_cli.proofs.requests.parse_args.Given.{Over}
+use Rattle.rvtest_cli.proofs.requests.parse_args.Goals as goal
+use Rattle.rvtest_cli.proofs.requests.parse_args.Goals.{in_default-via-then-args-lt2, in_default-via-in-len2+else-is_help}
+use Rattle.rvtest_cli.proofs.requests.parse_args.Goals.{in_default-via-in-len3+else-is_command_help}
+use Rattle.rvtest_cli.proofs.requests.parse_args.Goals.{in_default-via-else-args-lt2+else-args-lt3+else-args-lt4}
 
 -- what is requested with an option in their place
 

@@ -3,7 +3,7 @@ use Rattle.std.proofs.lemmas.Result.{err_from_is_err_and}
 use Rattle.rv_rows.specs.Jobs.{single_job}
 use Rattle.rv_gdb.specs.declared_session.Session.{Session}
 use Rattle.rvtest_app.specs.Debugging.{job_end_text}
-use Rattle.rvtest_app.proofs.gdb.show_job_to_gdb.Goals as goal
+use Rattle.rvtest_app.proofs.gdb.debug_named_job.Goals as goal
 
 pub serve-requires-clause-requested : goal.serve-requires-clause-requested
 serve-requires-clause-requested g c =
@@ -14,7 +14,7 @@ serve-requires-clause-requested g c =
 pub returns-in-Ok-clause-served : goal.returns-in-Ok-clause-served
 returns-in-Ok-clause-served g c =
     let received = rw (c.in-Ok.is, c.limit_memory.ensures) at c.serve.ensures.served in record {
-      is_no_terminal = c.if-is_terminal.false;
+      is_not_terminal = c.if-is_terminal.false;
       end_text = job_end_text c.in_ok-opened.opened.job.plan c.in_ok-opened.opened.job.unread.items c.in_ok-opened.opened.job.index;
       first = c.in_ok-opened.opened.session;
       opened = c.in_ok-opened.ensures.opened;
