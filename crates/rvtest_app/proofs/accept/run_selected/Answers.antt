@@ -20,7 +20,7 @@ returns-in-Ok-clause-rows g c =
           c.into_vec.ensures,
           c.in-Ok.ensures,
           c.new-batch.ensures.plan,
-          c.new-batch.ensures.places,
+          c.new-batch.ensures.indices,
           c.as_slice-4.ensures.value,
           c.in_ok-indices.ensures.value,
           c.as_slice.ensures.value,
