@@ -6,7 +6,7 @@ use Rattle.std.proofs.lemmas.Bool.Decides.{nat_tests}
 use Rattle.rv_lines.specs.declared.span.SourceLine.{SourceLine}
 use Rattle.rv_lines.specs.declared.span.Span.{Span}
 use Rattle.rv_lines.specs.Entries.{Strings}
-use Rattle.rv_lines.specs.Lines.{covers, chosen, source_at, with_line, line_at, all_spans, units_of, IsSourceOf}
+use Rattle.rv_lines.specs.Lines.{covers, chosen, source_at, unless_line_0, line_at, all_spans, units_of, IsSourceOf}
 use Rattle.rv_lines.proofs.Choosing.{any_above, is_top, lower_any, false_or}
 
 abbrev some : {X : Type 0} → X → Option X
@@ -96,7 +96,7 @@ of_chosen spans a s h =
     }
 
 of_source : (spans : List Span) (a : ℕ) (source : SourceLine) (o : Option Span) → chosen (filter (covers a) spans) ≡ o
-    → option_and_then with_line (option_map (λ s. s.source) o) ≡ Some source → IsSourceOf spans a source
+    → option_and_then unless_line_0 (option_map (λ s. s.source) o) ≡ Some source → IsSourceOf spans a source
 of_source spans a source None e h = absurd cc
 of_source spans a source (Some s) e h = elim (s.source.line == 0) as (λ b. cond b None (Some s.source) ≡ Some source → IsSourceOf spans a source) [
   | true ↦ λ k. absurd cc

@@ -56,8 +56,8 @@ unfoldable pub source_at : List Span → ℕ → Option SourceLine
 source_at spans a = option_map (λ s. s.source) (chosen (filter (covers a) spans))
 
 -- the source line, or `None` if its line is 0, which means that the line is not known
-abbrev pub with_line : SourceLine → Option SourceLine
-with_line source = if source.line == 0 then None else Some source
+abbrev pub unless_line_0 : SourceLine → Option SourceLine
+unless_line_0 source = if source.line == 0 then None else Some source
 
 -- the units of `.debug_line`, in order
 abbrev pub units_of : Strings → List ℕ → List UnitRead
@@ -65,7 +65,7 @@ units_of strings section = units (length section) strings 0 section
 
 -- the source line of an address, or `None` if it has none
 unfoldable pub line_at : Strings → List ℕ → ℕ → Option SourceLine
-line_at strings section a = option_and_then with_line (source_at (all_spans (units_of strings section)) a)
+line_at strings section a = option_and_then unless_line_0 (source_at (all_spans (units_of strings section)) a)
 
 -- `source` is the source line of a span that covers the address `a`; no span that covers this address has a greater `low`, and none that
 -- covers it and comes before the span has an equal one

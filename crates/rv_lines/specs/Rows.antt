@@ -94,10 +94,10 @@ has_file files file = nat_le files.first file && nat_lt (file - files.first) fil
 abbrev pub lacks_file : FileNumbers → Row → Bool
 lacks_file files row = not row.ends && not (has_file files row.file)
 
--- whether rows end in the middle of a sequence; `begun` says whether they begin in one
+-- whether rows end in the middle of a sequence; `in_sequence` says whether they begin in one
 abbrev pub is_open : Bool → List Row → Bool
-is_open begun [] = begun
-is_open begun (row ∷ rows) = is_open (not row.ends) rows
+is_open in_sequence [] = in_sequence
+is_open in_sequence (row ∷ rows) = is_open (not row.ends) rows
 
 -- the rows, or the error `OpenSequence` if they end in the middle of a sequence
 abbrev pub require_closed : List Row → Result (List Row) UnitError

@@ -8,8 +8,8 @@ ghost use Rattle.rv_lines.specs.EntriesInside.{is_index, view_entry, view_entrie
 
 use crate::error::UnitError;
 use crate::forms::{
-    DW_LNCT_DIRECTORY_INDEX, DW_LNCT_PATH, Field, field_at, number_of_form, skip_form,
-    string_of_form,
+    DW_LNCT_DIRECTORY_INDEX, DW_LNCT_PATH, Field, field_at, form_number_at, form_string_at,
+    skip_form,
 };
 use crate::numbers::{number_at, skip_number};
 use crate::reading::{byte_at, string_at};
@@ -201,7 +201,7 @@ fn with_field<'a>(
 {
     match field.content {
         DW_LNCT_PATH => {
-            let (name, rest) = string_of_form(strings, field.form, bytes)?;
+            let (name, rest) = form_string_at(strings, field.form, bytes)?;
             Ok((
                 Entry {
                     name,
@@ -211,7 +211,7 @@ fn with_field<'a>(
             ))
         }
         DW_LNCT_DIRECTORY_INDEX => {
-            let (directory, rest) = number_of_form(field.form, bytes)?;
+            let (directory, rest) = form_number_at(field.form, bytes)?;
             Ok((
                 Entry {
                     name: entry.name,

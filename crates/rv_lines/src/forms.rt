@@ -111,7 +111,7 @@ fn size_of_form(form: u32) -> Option<u32>
 
 /// Reads a string of this form; the error is `EntryForm` if the form is not a string.
 #[tactic(auto, unfolding(crate::specs::Entries::form_string_at))]
-pub(crate) fn string_of_form<'a>(
+pub(crate) fn form_string_at<'a>(
     strings: &StringSections<'a>,
     form: u32,
     bytes: &'a [u8],
@@ -143,7 +143,7 @@ fn offset_string_at<'a>(
 
 /// Reads a number of this form; the error is `EntryForm` if the form is not a number.
 #[tactic(auto, unfolding(crate::specs::Entries::form_number_at))]
-pub(crate) fn number_of_form(form: u32, bytes: &[u8]) -> Result<(u64, &[u8]), UnitError>
+pub(crate) fn form_number_at(form: u32, bytes: &[u8]) -> Result<(u64, &[u8]), UnitError>
     ensures { Gives (λ x. (x.0, x.1.now)) result (form_number_at form bytes.now) }
 {
     match form {

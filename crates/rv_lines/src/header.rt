@@ -2,8 +2,8 @@
 //! read. The error is `HeaderCutOff` if the bytes end too early.
 ghost use Rattle.std.specs.Prelude.{◌≡◌, ◌<◌, IfOk};
 ghost use Rattle.rv_lines.specs.Reading.{Gives};
-ghost use Rattle.rv_lines.specs.Header.{are_standard, sign_extended, operations_check, lengths_at, parameters_at, entries_of_version};
-ghost use Rattle.rv_lines.specs.Header.{first_number, index_of, fields_of_header, addresses_check, version_at, frame_at, header_at};
+ghost use Rattle.rv_lines.specs.Header.{are_standard, sign_extended, bytes_after_operations, lengths_at, parameters_at, entries_of_version};
+ghost use Rattle.rv_lines.specs.Header.{first_number, index_of, fields_of_header, bytes_after_address_size, version_at, frame_at, header_at};
 ghost use Rattle.rv_lines.specs.EntriesInside.{view_entries, view_strings, summarised};
 ghost use Rattle.rv_lines.specs.HeaderInside.{view_header, header_summary_of, header_summary_at};
 
@@ -86,7 +86,7 @@ fn frame_at(bytes: &[u8]) -> Result<(u16, &[u8], &[u8]), UnitError>
     ensures { Gives (λ x. ((x.0, x.1.now), x.2.now)) result (frame_at bytes.now) }
 {
     let (version, rest) = version_at(bytes)?;
-    let rest = addresses_check(version, rest)?;
+    let rest = bytes_after_address_size(version, rest)?;
     let (size, rest) = word_at(UnitError::HeaderCutOff, rest)?;
     if rest.len() < size as usize {
         return Err(UnitError::HeaderCutOff);
@@ -110,9 +110,9 @@ fn version_at(bytes: &[u8]) -> Result<(u16, &[u8]), UnitError>
 
 // Checks `address_size`, which must be 4, and `segment_selector_size`, which must be 0, and returns the bytes after them. Only DWARF 5 has
 // these fields.
-#[tactic(auto, unfolding(crate::specs::Header::addresses_check))]
-fn addresses_check(version: u16, bytes: &[u8]) -> Result<&[u8], UnitError>
-    ensures { Gives (λ x. x.now) result (addresses_check version bytes.now) }
+#[tactic(auto, unfolding(crate::specs::Header::bytes_after_address_size))]
+fn bytes_after_address_size(version: u16, bytes: &[u8]) -> Result<&[u8], UnitError>
+    ensures { Gives (λ x. x.now) result (bytes_after_address_size version bytes.now) }
 {
     if version != 5 {
         return Ok(bytes);
@@ -199,7 +199,7 @@ fn parameters_at(version: u16, bytes: &[u8]) -> Result<(Parameters, &[u8]), Unit
     ensures line_range { IfOk result (λ x. 0 < x.0.line_range) }
 {
     let (min_length, rest) = byte_at(UnitError::HeaderCutOff, bytes)?;
-    let rest = operations_check(version, rest)?;
+    let rest = bytes_after_operations(version, rest)?;
     let (is_stmt, rest) = byte_at(UnitError::HeaderCutOff, rest)?;
     let (line_base, rest) = byte_at(UnitError::HeaderCutOff, rest)?;
     let (line_range, rest) = byte_at(UnitError::HeaderCutOff, rest)?;
@@ -221,9 +221,9 @@ fn parameters_at(version: u16, bytes: &[u8]) -> Result<(Parameters, &[u8]), Unit
 }
 
 // Checks `maximum_operations_per_instruction`, which must be 1, and returns the bytes after it. DWARF 2 and 3 do not have this field.
-#[tactic(auto, unfolding(crate::specs::Header::operations_check))]
-fn operations_check(version: u16, bytes: &[u8]) -> Result<&[u8], UnitError>
-    ensures { Gives (λ x. x.now) result (operations_check version bytes.now) }
+#[tactic(auto, unfolding(crate::specs::Header::bytes_after_operations))]
+fn bytes_after_operations(version: u16, bytes: &[u8]) -> Result<&[u8], UnitError>
+    ensures { Gives (λ x. x.now) result (bytes_after_operations version bytes.now) }
 {
     if version < 4 {
         return Ok(bytes);

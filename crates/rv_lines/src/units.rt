@@ -4,11 +4,11 @@ ghost use Rattle.rv_lines.specs.Reading.{Gives};
 ghost use Rattle.rv_lines.specs.EntriesInside.{view_strings};
 ghost use Rattle.rv_lines.specs.Units.{unit_bytes, unit_size, long_unit_size, rows_at};
 ghost use Rattle.rv_lines.specs.Lines.{spans_of_rows};
-ghost use Rattle.rv_lines.specs.SearchInside.{noted_all, checked_only, rows_of_program, IsRising};
+ghost use Rattle.rv_lines.specs.SearchInside.{recorded_all, checked_only, rows_of_program, IsRising};
 
 use crate::error::UnitError;
 use crate::header::{RequestedEntries, header_at};
-use crate::program::{Program, note_program};
+use crate::program::{Program, record_program};
 use crate::reading::bytes_from;
 use crate::span::SourceLine;
 use crate::tables::LineTables;
@@ -26,7 +26,7 @@ const DWARF_64: u32 = 0xffff_ffff;
 const RESERVED: u32 = 0xffff_fff0;
 
 /// Records the spans of the unit at an offset; or returns the unit's error, and records none.
-pub(crate) fn note_unit(
+pub(crate) fn record_unit(
     tables: &LineTables,
     offset: u32,
     addresses: &[u32],
@@ -35,13 +35,13 @@ pub(crate) fn note_unit(
     requires rising { IsRising addresses.now }
     requires same_length { length found.old ≡ length addresses.now }
     ensures value { result ≡ checked_only (rows_at (view_strings tables.now.strings) (drop offset tables.now.lines.now)) }
-    ensures found { found.new ≡ noted_all
+    ensures found { found.new ≡ recorded_all
         (spans_of_rows offset (rows_at (view_strings tables.now.strings) (drop offset tables.now.lines.now))) addresses.now found.old }
 {
     let program = program_of(tables, offset)?;
     // An error may follow rows, so the program is checked before its rows are recorded.
-    note_program(&program, &[], &mut [])?;
-    note_program(&program, addresses, found)
+    record_program(&program, &[], &mut [])?;
+    record_program(&program, addresses, found)
 }
 
 // Returns the program of the unit at an offset, or the error of its length or of its header.

@@ -145,7 +145,7 @@ explained_key (explanation.Expected expected) = Some expected.now.key.now
 
 -- the number of bytes that a text of this length represents, or 0 if the number is never shown
 abbrev pub shown_byte_count : Bytes → ℕ → ℕ
-shown_byte_count bytes.Untold length = 0
+shown_byte_count bytes.NotShown length = 0
 shown_byte_count bytes.Each length = length
 shown_byte_count bytes.Pairs length = length / 2
 

@@ -48,7 +48,7 @@ enum InsertedText {
 #[derive(Clone, Copy)]
 enum Bytes {
     /// No number.
-    Untold,
+    NotShown,
     /// The number of bytes of the text.
     Each,
     /// Half the number of bytes of the text: two hexadecimal digits represent one byte.
@@ -60,7 +60,7 @@ pub(crate) const NAME: Expected = Expected {
     before: "expected 1 to ",
     rest: InsertedText::Maximum(MAX_NAME_LEN as u64),
     behind: " ASCII letters, digits, \".\", \"_\" or \"-\"",
-    bytes: Bytes::Untold,
+    bytes: Bytes::NotShown,
 };
 
 pub(crate) const IMAGE: Expected = Expected {
@@ -76,7 +76,7 @@ pub(crate) const BUDGET: Expected = Expected {
     before: "expected an integer from 1 to ",
     rest: InsertedText::Maximum(MAX_BUDGET as u64),
     behind: "",
-    bytes: Bytes::Untold,
+    bytes: Bytes::NotShown,
 };
 
 pub(crate) const INPUT: Expected = Expected {
@@ -100,7 +100,7 @@ pub(crate) const HEX_PAIRS: Expected = Expected {
     before: "expected pairs of hexadecimal digits",
     rest: InsertedText::Nothing,
     behind: "",
-    bytes: Bytes::Untold,
+    bytes: Bytes::NotShown,
 };
 
 pub(crate) const LOAD: Expected = Expected {
@@ -108,7 +108,7 @@ pub(crate) const LOAD: Expected = Expected {
     before: "expected \"physical\" or \"virtual\"",
     rest: InsertedText::Nothing,
     behind: "",
-    bytes: Bytes::Untold,
+    bytes: Bytes::NotShown,
 };
 
 pub(crate) const SIGNATURE: Expected = Expected {
@@ -116,7 +116,7 @@ pub(crate) const SIGNATURE: Expected = Expected {
     before: "expected two symbol names of 1 to ",
     rest: InsertedText::Maximum(MAX_SYMBOL_LEN as u64),
     behind: " bytes each, without NUL bytes",
-    bytes: Bytes::Untold,
+    bytes: Bytes::NotShown,
 };
 
 pub(crate) const EXPECT_EXIT: Expected = Expected {
@@ -124,7 +124,7 @@ pub(crate) const EXPECT_EXIT: Expected = Expected {
     before: "expected an integer from 0 to ",
     rest: InsertedText::Maximum(u32::MAX as u64),
     behind: "",
-    bytes: Bytes::Untold,
+    bytes: Bytes::NotShown,
 };
 
 pub(crate) const NEGATIVE_EXIT: Expected = Expected {
@@ -132,7 +132,7 @@ pub(crate) const NEGATIVE_EXIT: Expected = Expected {
     before: "expected an integer from 0 to ",
     rest: InsertedText::Maximum(u32::MAX as u64),
     behind: "; for example, write -1 as 4294967295",
-    bytes: Bytes::Untold,
+    bytes: Bytes::NotShown,
 };
 
 pub(crate) const WITHOUT_SIGNATURE: Expected = Expected {
@@ -140,7 +140,7 @@ pub(crate) const WITHOUT_SIGNATURE: Expected = Expected {
     before: "cannot be used without \"signature\"",
     rest: InsertedText::Nothing,
     behind: "",
-    bytes: Bytes::Untold,
+    bytes: Bytes::NotShown,
 };
 
 pub(crate) const EXPECT_SIGNATURE: Expected = Expected {
@@ -172,7 +172,7 @@ pub(crate) const EXPECT_END: Expected = Expected {
     before: "expected \"budget\" or a fault kind: ",
     rest: InsertedText::FaultKinds,
     behind: "",
-    bytes: Bytes::Untold,
+    bytes: Bytes::NotShown,
 };
 
 pub(crate) const ISA: Expected = Expected {
@@ -180,7 +180,7 @@ pub(crate) const ISA: Expected = Expected {
     before: "expected \"rv32i\", \"rv32im\", \"rv32ic\" or \"rv32imc\"",
     rest: InsertedText::Nothing,
     behind: "",
-    bytes: Bytes::Untold,
+    bytes: Bytes::NotShown,
 };
 
 pub(crate) const ISA_WITH_A: Expected = Expected {
@@ -188,7 +188,7 @@ pub(crate) const ISA_WITH_A: Expected = Expected {
     before: "the A extension is not simulated: expected \"rv32i\", \"rv32im\", \"rv32ic\" or \"rv32imc\"",
     rest: InsertedText::Nothing,
     behind: "",
-    bytes: Bytes::Untold,
+    bytes: Bytes::NotShown,
 };
 
 pub(crate) const ISA_WITH_FLOATS: Expected = Expected {
@@ -196,7 +196,7 @@ pub(crate) const ISA_WITH_FLOATS: Expected = Expected {
     before: "the F and D extensions are not simulated: expected \"rv32i\", \"rv32im\", \"rv32ic\" or \"rv32imc\"",
     rest: InsertedText::Nothing,
     behind: "",
-    bytes: Bytes::Untold,
+    bytes: Bytes::NotShown,
 };
 
 pub(crate) const ISA_OF_64_BITS: Expected = Expected {
@@ -204,7 +204,7 @@ pub(crate) const ISA_OF_64_BITS: Expected = Expected {
     before: "RV64 is not simulated: expected \"rv32i\", \"rv32im\", \"rv32ic\" or \"rv32imc\"",
     rest: InsertedText::Nothing,
     behind: "",
-    bytes: Bytes::Untold,
+    bytes: Bytes::NotShown,
 };
 
 pub(crate) const MISALIGNED: Expected = Expected {
@@ -212,7 +212,7 @@ pub(crate) const MISALIGNED: Expected = Expected {
     before: "expected \"fault\" or \"allow\"",
     rest: InsertedText::Nothing,
     behind: "",
-    bytes: Bytes::Untold,
+    bytes: Bytes::NotShown,
 };
 
 /// Returns what is expected of the value of a key that accepts only a few texts, or `None` for any other key.
@@ -321,7 +321,7 @@ fn shown_byte_count(bytes: Bytes, text: Option<&str>) -> u64
         None => 0,
     };
     match bytes {
-        Bytes::Untold => 0,
+        Bytes::NotShown => 0,
         Bytes::Each => len,
         Bytes::Pairs => len / 2,
     }

@@ -30,7 +30,7 @@ use crate::profile::profile_requested_jobs;
 use crate::run::run_requested_jobs;
 use crate::show::show_report;
 use crate::terminals::Terminals;
-use rv_command::{REJECTED, Stop, put_end_message, write_message, write_stop_message};
+use rv_command::{REJECTED, Stop, write_end_message, write_message, write_stop_message};
 use rv_files::{Closable, Inputs, Outputs, Sink, SinkFailed};
 use rv_terminal::{ColorSink, ColorSpec};
 use rvtest_cli::{Request, parse_args};
@@ -95,7 +95,7 @@ where
         Ok(status) => (destinations, status),
         Err(stop) => {
             let is_out_closed = destinations.out.is_closed();
-            let status = put_end_message(&mut destinations.errors, stop, is_out_closed);
+            let status = write_end_message(&mut destinations.errors, stop, is_out_closed);
             (destinations, status)
         }
     }

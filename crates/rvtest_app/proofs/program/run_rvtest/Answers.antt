@@ -63,6 +63,6 @@ returns-clause-ended g c =
     inr (
       c.in-Err-outcome.stop,
       rw c.in-Err-outcome.is at stopped,
-      rw c.is_closed-is_out_closed.ensures at c.put_end_message-status.ensures.status,
-      (before, (refl, rw c.is_closed-is_out_closed.ensures at c.put_end_message-status.ensures.reported, refl)),
+      rw c.is_closed-is_out_closed.ensures at c.write_end_message-status.ensures.status,
+      (before, (refl, rw c.is_closed-is_out_closed.ensures at c.write_end_message-status.ensures.reported, refl)),
     )

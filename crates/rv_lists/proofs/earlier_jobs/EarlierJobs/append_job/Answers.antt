@@ -4,7 +4,7 @@ use Rattle.rv_lists.specs.Jobs.{IsValidJobAt}
 use Rattle.rv_base.specs.Limits.{max_jobs}
 use Rattle.rv_lists.specs.JobList.{names_of_jobs}
 use Rattle.rv_base.specs.Names.{index_in}
-use Rattle.rv_lists.proofs.JobPlaces.{jobs_more, names_more}
+use Rattle.rv_lists.proofs.JobIndices.{jobs_more, names_more}
 use Rattle.rv_lists.proofs.earlier_jobs.EarlierJobs.append_job.Goals as goal
 
 pub invariant_of-result : goal.invariant_of-result

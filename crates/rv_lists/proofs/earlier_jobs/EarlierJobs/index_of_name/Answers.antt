@@ -1,5 +1,5 @@
 use Rattle.std.proofs.Common.{◌∙◌}
-use Rattle.rv_lists.proofs.JobPlaces.{within_names}
+use Rattle.rv_lists.proofs.JobIndices.{within_names}
 use Rattle.rv_lists.proofs.earlier_jobs.EarlierJobs.index_of_name.Goals as goal
 
 pub returns-clause-within : goal.returns-clause-within

@@ -1,6 +1,6 @@
 use Rattle.std.proofs.Common.{ap}
 use Rattle.rv_lists.specs.JobList.{names_of_jobs}
-use Rattle.rv_lists.proofs.JobPlaces.{no_jobs_are}
+use Rattle.rv_lists.proofs.JobIndices.{no_jobs_are}
 use Rattle.rv_base.proofs.Public.{none_placed}
 use Rattle.rv_lists.proofs.earlier_jobs.EarlierJobs.new.Goals as goal
 

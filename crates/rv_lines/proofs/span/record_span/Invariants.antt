@@ -1,6 +1,6 @@
 use Rattle.std.proofs.Common.{◌-◌, ◌≤◌, ◌<◌, ℕ, get_or, length}
 use Rattle.rv_lines.proofs.Noting.{IsNotedTo}
-use Rattle.rv_lines.proofs.span.note_span.Given as goal
+use Rattle.rv_lines.proofs.span.record_span.Given as goal
 
 abbrev pub invariant-loop-k : goal.invariant-loop-k
 invariant-loop-k l = record {

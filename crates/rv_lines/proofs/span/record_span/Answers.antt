@@ -2,7 +2,7 @@ use Rattle.std.proofs.Common.{get_or, arith, rules, ltb}
 use Rattle.std.proofs.lemmas.Bool.{ltb-false}
 use Rattle.std.proofs.lemmas.List.Sorted.{IsPartitionPoint-from_clause, IsPartitionedBy-ltb}
 use Rattle.rv_lines.proofs.Noting.{noted_start, noted_done}
-use Rattle.rv_lines.proofs.span.note_span.Goals as goal
+use Rattle.rv_lines.proofs.span.record_span.Goals as goal
 
 pub loop-k-init : goal.loop-k-init
 loop-k-init c =

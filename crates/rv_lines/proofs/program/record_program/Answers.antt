@@ -4,7 +4,7 @@ use Rattle.rv_lines.specs.declared.error.UnitError.TheVariants.{OpenSequence}
 use Rattle.rv_lines.specs.declared.rows.State.{State}
 use Rattle.rv_lines.specs.SearchInside.{rows_of_program, checked_only}
 use Rattle.rv_lines.proofs.Folding.{NotedSoFar, so_far_start, so_far_fails, so_far_open, so_far_done, step_lacks, step_on, noted_if_err, noted_if_ok, operation_shorter}
-use Rattle.rv_lines.proofs.program.note_program.Goals as goal
+use Rattle.rv_lines.proofs.program.record_program.Goals as goal
 
 pub loop-rest-init : goal.loop-rest-init
 loop-rest-init c =
@@ -55,9 +55,9 @@ loop-rest-preserved c =
     let lt : 0 < length c.loop-rest.rest.now = omega arith in
     step_on program.parameters program.files program.lengths.now (rows_of_program program) program.unit c.args.addresses.now c.args.found.now
     c.loop-rest.state c.loop-rest.before c.loop-rest.found c.loop-rest.rest.now c.in_ok-operation.after.now c.in_ok-operation.operation
-    c.apply-changed.result c.row_added-added.result c.note_row.new.found c.next_state-state.result c.or-before.result c.apply-changed.ensures c.row_added-added.ensures
+    c.apply-changed.result c.row_added-added.result c.record_row.new.found c.next_state-state.result c.or-before.result c.apply-changed.ensures c.row_added-added.ensures
     c.next_state-state.ensures c.or-before.ensures lt c.in_ok-operation.ensures
-    (sym c.check_file.ensures ∙ c.in_ok-check_file.was) c.note_row.ensures c.loop-rest.invariant
+    (sym c.check_file.ensures ∙ c.in_ok-check_file.was) c.record_row.ensures c.loop-rest.invariant
 
 pub loop-rest-smaller : goal.loop-rest-smaller
 loop-rest-smaller c =
