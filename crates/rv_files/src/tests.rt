@@ -326,13 +326,13 @@ fn memory_files_are_read(rt: HostRuntime) -> Result<(), Fail> {
     files.push(memory_file(rt.alloc(), "image", b"here")?)?;
     files.push(memory_file(rt.alloc(), "folder/image", b"below")?)?;
     let inputs = MemoryInputs::new(files);
-    for (folder, path, wanted) in [
+    for (directory, path, wanted) in [
         (None, "image", "here"),
         (Some("folder"), "image", "below"),
         (Some("folder"), "/image", "unread"),
         (None, "folder", "unread"),
     ] {
-        let mut store = RecordingStore::new(&inputs, rt.alloc(), folder);
+        let mut store = RecordingStore::new(&inputs, rt.alloc(), directory);
         match store.read(rt.alloc(), path) {
             Ok(bytes) => assert_eq!(rt; bytes.as_slice(), wanted.as_bytes(), "{path}"),
             Err(_) => assert_eq!(rt; store.unreadable_paths().len(), 1, "{path}"),

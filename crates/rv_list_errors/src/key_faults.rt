@@ -98,7 +98,7 @@ impl<'a> FaultyJob<'a> {
             KeyFault::Unknown => push_unknown_key_of_job(message, key, self.suggestion),
             KeyFault::UnknownInRegion => push_unknown_region_key(message, self.table),
             KeyFault::WrongType(kind) => push_value_of_wrong_type(message, self.table, key, kind),
-            KeyFault::Expected(told) => push_explanation(message, self.table, told),
+            KeyFault::Expected(explanation) => push_explanation(message, self.table, explanation),
             KeyFault::DuplicateName => push_duplicate_name(message, self.list, self.table),
             KeyFault::NoEarlierJob => push_unknown_same_as(
                 message,
@@ -284,8 +284,8 @@ impl<'a> FaultyJob<'a> {
 
 // Returns the `KeyFault` with this explanation, or `None` if there is no explanation.
 fn expected_fault(explanation: Option<Explanation>) -> Option<KeyFault> {
-    match told {
-        Some(told) => Some(KeyFault::Expected(told)),
+    match explanation {
+        Some(explanation) => Some(KeyFault::Expected(explanation)),
         None => None,
     }
 }

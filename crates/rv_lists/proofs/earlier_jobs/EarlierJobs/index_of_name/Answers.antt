@@ -6,4 +6,4 @@ pub returns-clause-within : goal.returns-clause-within
 returns-clause-within c =
     rw (← c.self.view_is)
     (within_names c.self.inside.jobs.items c.args.name.now c.copied.result
-    (c.copied.ensures ∙ c.get.ensures.value ∙ c.self.invariant.places c.args.name.now))
+    (c.copied.ensures ∙ c.get.ensures.value ∙ c.self.invariant.indices c.args.name.now))
