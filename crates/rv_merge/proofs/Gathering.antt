@@ -261,7 +261,7 @@ pub is_unread : (place : ReadError) (bytes : List ℕ) → (place ≡ read.OutOf
 is_unread place bytes other only begins told = record {
   none = λ report saved text. other (only report saved text);
   begins = begins;
-  told = told;
+  error_is = told;
 }
 
 -- what holds of each number of a list holds of the list

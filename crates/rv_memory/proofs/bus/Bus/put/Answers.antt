@@ -29,11 +29,11 @@ invariant_of-self c =
       map = c.self.invariant.map;
       bytes = ap length bytes ∙ length-with_value_at _ _ _ _ ∙ c.self.invariant.bytes;
       marks = ap length marks ∙ length-with_marks_at _ _ _ _ ∙ c.self.invariant.marks;
-      older = rw marks (older-with_marks_at _ _ _ _ c.self.invariant.older);
+      newest_mark = rw marks (older-with_marks_at _ _ _ _ c.self.invariant.newest_mark);
       generation = c.self.invariant.generation;
       script_position = c.self.invariant.script_position;
       script_fits = c.self.invariant.script_fits;
-      room = c.self.invariant.room;
+      buffer_capacity = c.self.invariant.buffer_capacity;
       output_fits = c.self.invariant.output_fits;
     }
 
