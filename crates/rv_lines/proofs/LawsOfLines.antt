@@ -35,7 +35,7 @@ record FoundAt (p : Span → Bool) (spans : List Span) (s : Span) : Type 0 where
   here : p s ≡ true
   front : List Span
   back : List Span
-  place : spans ≡ front ++ s ∷ back
+  split : spans ≡ front ++ s ∷ back
   before : list_any p front ≡ false
 
 found_at : (p : Span → Bool) (spans : List Span) (s : Span) → find p spans ≡ Some s → FoundAt p spans s
@@ -45,14 +45,14 @@ found_at p (x ∷ spans) s h = elim (p x) as (λ b. p x ≡ b → cond b (Some x
     here = subst (λ y. p y ≡ true) same e;
     front = [];
     back = spans;
-    place = ap (λ y. y ∷ spans) same;
+    split = ap (λ y. y ∷ spans) same;
     before = refl;
   })
   | false ↦ λ e k. (let r = found_at p spans s k in record {
     here = r.here;
     front = x ∷ r.front;
     back = r.back;
-    place = ap (λ ys. x ∷ ys) r.place;
+    split = ap (λ ys. x ∷ ys) r.split;
     before = false_or (p x) (list_any p r.front) e ∙ r.before;
   })
 ] refl h
@@ -91,7 +91,7 @@ of_chosen spans a s h =
       highest = top;
       front = r.front;
       back = r.back;
-      place = r.place;
+      split = r.split;
       first = none_as_high all s r.front top r.before;
     }
 

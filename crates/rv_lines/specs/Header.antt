@@ -6,7 +6,7 @@ use Rattle.rv_lines.specs.declared.error.UnitError.TheVariants as unit
 use Rattle.rv_lines.specs.declared.header.FileNumbers.{FileNumbers}
 use Rattle.rv_lines.specs.declared.header.Parameters.{Parameters}
 use Rattle.rv_lines.specs.Reading.{◌>>=◌, Read, byte_at, fixed_at}
-use Rattle.rv_lines.specs.Entries.{Strings, Entry, list_at, table_at}
+use Rattle.rv_lines.specs.Entries.{Strings, Entry, legacy_list_at, dwarf5_list_at}
 
 -- a header: the parameters of the program, standard_opcode_lengths, the number of the first file and directory (1 in DWARF 2 to 4, 0 in
 -- DWARF 5), and the directories and files
@@ -79,7 +79,7 @@ parameters_at version bytes = do
 
 -- a list of directories, or of files if `of_files` is true, in the form of the version
 unfoldable pub entries_of_version : Strings → ℕ → Bool → List ℕ → Read (List Entry)
-entries_of_version strings version of_files bytes = if version == 5 then table_at strings bytes else list_at (length bytes) of_files bytes
+entries_of_version strings version of_files bytes = if version == 5 then dwarf5_list_at strings bytes else legacy_list_at (length bytes) of_files bytes
 
 -- the fields of a header after header_length, or the first error in them
 unfoldable pub fields_of_header : Strings → ℕ → List ℕ → Result Header UnitError

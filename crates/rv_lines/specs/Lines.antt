@@ -76,7 +76,7 @@ pub record IsSourceOf (spans : List Span) (a : ℕ) (source : SourceLine) : Type
   pub highest : list_any (λ t. nat_lt source.low t.source.low) (filter (covers a) spans) ≡ false
   pub front : List Span
   pub back : List Span
-  pub place : filter (covers a) spans ≡ front ++ span ∷ back
+  pub split : filter (covers a) spans ≡ front ++ span ∷ back
   pub first : list_any (λ t. nat_le source.low t.source.low) front ≡ false
 
 -- ---- the units that are rejected

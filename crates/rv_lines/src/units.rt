@@ -1,6 +1,6 @@
 //! The units of `.debug_line` (DWARF 5, sections 7.2.2 and 7.4 for their lengths, section 6.2.4).
 ghost use Rattle.std.specs.Prelude.{◌≡◌, ◌<◌, length, drop, min, MatchResult, IfOk, Err};
-ghost use Rattle.rv_lines.specs.Reading.{Gives};
+ghost use Rattle.rv_lines.specs.Reading.{AgreesWith};
 ghost use Rattle.rv_lines.specs.EntriesInside.{view_strings};
 ghost use Rattle.rv_lines.specs.Units.{unit_bytes, unit_size, long_unit_size, rows_at};
 ghost use Rattle.rv_lines.specs.Lines.{spans_of_rows};
@@ -66,7 +66,7 @@ fn program_of<'a>(tables: &LineTables<'a>, offset: u32) -> Result<Program<'a>, U
 /// Returns the bytes of the unit at the front, after `unit_length`, or the error of its length.
 #[tactic(auto, unfolding(crate::specs::Units::unit_bytes))]
 pub(crate) fn unit_bytes(bytes: &[u8]) -> Result<&[u8], UnitError>
-    ensures { Gives (λ x. x.now) result (unit_bytes bytes.now) }
+    ensures { AgreesWith (λ x. x.now) result (unit_bytes bytes.now) }
 {
     if bytes.len() < LENGTH_SIZE {
         return Err(UnitError::UnitCutOff);

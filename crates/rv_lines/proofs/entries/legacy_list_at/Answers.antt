@@ -3,17 +3,17 @@ use Rattle.std.proofs.lemmas.Result.{err_from_is_err_and}
 use Rattle.std.proofs.lemmas.Bool.Decides.{nat_tests}
 use Rattle.rv_lines.specs.declared.error.UnitError.TheVariants.{HeaderCutOff}
 use Rattle.rv_lines.specs.Reading.{string_at}
-use Rattle.rv_lines.specs.Entries.{Entry, list_at, numbers_at}
+use Rattle.rv_lines.specs.Entries.{Entry, legacy_list_at, numbers_at}
 use Rattle.rv_lines.specs.EntriesInside.{view_entry, summarised}
 use Rattle.rv_lines.proofs.EntryLists.{ListLeft, resumed_all, list_fails, list_ends, list_numbers_fail, list_on, fewer_after, within_after}
 use Rattle.rv_lines.proofs.Shorter.{text_fewer, numbers_within}
-use Rattle.rv_lines.proofs.entries.list_at.Goals as goal
+use Rattle.rv_lines.proofs.entries.legacy_list_at.Goals as goal
 
 pub loop-name-init : goal.loop-name-init
 loop-name-init c =
     let bytes = c.args.bytes.now in
     record {
-      left = record { most = length bytes; enough = omega arith; is = resumed_all c.args.index (list_at (length bytes) c.args.of_files bytes) };
+      left = record { most = length bytes; enough = omega arith; is = resumed_all c.args.index (legacy_list_at (length bytes) c.args.of_files bytes) };
       within = omega arith;
     }
 
@@ -21,7 +21,7 @@ pub returns-in_err-name : goal.returns-in_err-name
 returns-in_err-name c =
     let bytes = c.args.bytes.now in
     let p = err_from_is_err_and c.from_residual.result c.from_residual.ensures.1 in
-    rw (p.1, p.2) (list_fails c.args.of_files c.args.index (summarised c.args.index (list_at (length bytes) c.args.of_files bytes))
+    rw (p.1, p.2) (list_fails c.args.of_files c.args.index (summarised c.args.index (legacy_list_at (length bytes) c.args.of_files bytes))
     c.loop-name.count (option_map view_entry c.loop-name.found) c.loop-name.rest.now c.loop-name.invariant.left c.in_err-name.field-0.0 c.in_err-name.ensures)
 
 pub returns-then-is_empty : goal.returns-then-is_empty
@@ -29,7 +29,7 @@ returns-then-is_empty c =
     let bytes = c.args.bytes.now in
     let e = sym c.is_empty.ensures ∙ c.if-is_empty.true in
     let none : length c.in_ok-name.name.now ≡ 0 = grind (arith, nat_tests) in
-    list_ends c.args.of_files c.args.index (summarised c.args.index (list_at (length bytes) c.args.of_files bytes))
+    list_ends c.args.of_files c.args.index (summarised c.args.index (legacy_list_at (length bytes) c.args.of_files bytes))
     c.loop-name.count (option_map view_entry c.loop-name.found) c.loop-name.rest.now c.loop-name.invariant.left
     c.in_ok-name.name.now c.in_ok-name.after.now c.in_ok-name.ensures none
 
@@ -39,14 +39,14 @@ returns-in_err-directory c =
     let e = sym c.is_empty.ensures ∙ c.if-is_empty.false in
     let some : 0 < length c.in_ok-name.name.now = grind (arith, nat_tests) in
     let p = err_from_is_err_and c.from_residual-in_err-directory.result c.from_residual-in_err-directory.ensures.1 in
-    rw (p.1, p.2) (list_numbers_fail c.args.of_files c.args.index (summarised c.args.index (list_at (length bytes) c.args.of_files bytes))
+    rw (p.1, p.2) (list_numbers_fail c.args.of_files c.args.index (summarised c.args.index (legacy_list_at (length bytes) c.args.of_files bytes))
     c.loop-name.count (option_map view_entry c.loop-name.found) c.loop-name.rest.now c.loop-name.invariant.left
     c.in_ok-name.name.now c.in_ok-name.after.now c.in_ok-name.ensures c.in_err-directory.field-0.0 some c.in_err-directory.ensures)
 
 pub loop-name-preserved : goal.loop-name-preserved
 loop-name-preserved c =
     let bytes = c.args.bytes.now in
-    let total = summarised c.args.index (list_at (length bytes) c.args.of_files bytes) in
+    let total = summarised c.args.index (legacy_list_at (length bytes) c.args.of_files bytes) in
     let e = sym c.is_empty.ensures ∙ c.if-is_empty.false in
     let some : 0 < length c.in_ok-name.name.now = grind (arith, nat_tests) in
     let f = fewer_after (length c.loop-name.rest.now) (string_at HeaderCutOff c.loop-name.rest.now) c.in_ok-name.name.now c.in_ok-name.after.now
