@@ -13,8 +13,8 @@ resolved_path (Some directory) path = path_join directory path
 resolved_path None path = path
 
 -- the contents of the files for paths relative to the directory `directory`, if the contents are known
-abbrev pub contents_below : Option (List ℕ) → Option FileContents → Option FileContents
-contents_below directory contents = option_map (λ files path. files (resolved_path directory path)) contents
+abbrev pub contents_relative_to : Option (List ℕ) → Option FileContents → Option FileContents
+contents_relative_to directory contents = option_map (λ files path. files (resolved_path directory path)) contents
 
 -- if the system failed to read a path, and the contents of files are known, then no file has this path
 abbrev pub HasNoContentsIfUnreadable : Option FileContents → List ℕ → ReadWholeError → Type 0

@@ -198,7 +198,7 @@ impl Outputs for MemoryOutputs {
     }
 
     // Does nothing: a file that was not placed leaves no trace.
-    fn abandon(&mut self, _place: Text) {}
+    fn abandon(&mut self, _pending: Text) {}
 }
 
 // Appends a text to a list of texts.

@@ -117,7 +117,7 @@ module _ (texts : List (List ℕ)) (at : ℕ) (shard : Shard) (sources : List (O
           record {
             n = part.number;
             of = of;
-            noted = ap is_some (get_or-set_same sources (part.number - 1) (Some at) None (omega arith));
+            has_source = ap is_some (get_or-set_same sources (part.number - 1) (Some at) None (omega arith));
             has = filled_has 0 max_jobs numbers rows slots listed.rising listed.counted number_within;
           }
 
@@ -151,7 +151,7 @@ module _ (texts : List (List ℕ)) (at : ℕ) (shard : Shard) (sources : List (O
           record {
             n = t.n;
             of = t.of;
-            noted = ap is_some (get_or-set_other sources (part.number - 1) (t.n - 1) (Some at) None ne) ∙ t.noted;
+            has_source = ap is_some (get_or-set_other sources (part.number - 1) (t.n - 1) (Some at) None ne) ∙ t.noted;
             has = map_agree (λ (m : ℕ). get_or (filled_slots numbers rows slots) (m - 1) None)
                 (λ (m : ℕ). get_or slots (m - 1) None) t.of.report.numbers
                 (λ q n there. filled_other numbers rows slots (n - 1) (apart bytes t q n there))

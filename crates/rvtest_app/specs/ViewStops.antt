@@ -11,7 +11,7 @@ use Rattle.rv_count_tables.specs.declared.table.CountTable.{CountTable}
 use Rattle.rv_profile.specs.ImageCounts.{other_image}
 use Rattle.rv_profile.specs.JobImages.{ImageFileView, images_of}
 use Rattle.rv_stacks.specs.JobTables.{jobs_at}
-use Rattle.rv_files.specs.UnreadablePaths.{contents_below}
+use Rattle.rv_files.specs.UnreadablePaths.{contents_relative_to}
 use Rattle.rv_files.specs.declared.recording_store.UnreadablePath.{UnreadablePath}
 use Rattle.rv_rows.specs.Plans.{PlanView}
 use Rattle.rv_rows.specs.declared_job.Job.{Job}
@@ -124,7 +124,7 @@ pub record IsNoViewOfJobsStop (contents : Option FileContents) (args : RunArgs) 
     (stop : Stop) : Type 0 where
   pub plan : PlanView
   pub unread : List UnreadablePath
-  pub planned : IsPlanFor (contents_below (optional_text args.root) contents) jobs indices plan unread
+  pub planned : IsPlanFor (contents_relative_to (optional_text args.root) contents) jobs indices plan unread
   pub not_made : IsViewNotMadeStop contents args requested_view plan indices stop
 
 -- why a command stopped: memory ran out, standard output could not be written, or the view of the jobs at these indices could not be made
