@@ -151,7 +151,7 @@ module _ (texts : List (List ℕ)) (at : ℕ) (shard : Shard) (sources : List (O
           record {
             n = t.n;
             of = t.of;
-            has_source = ap is_some (get_or-set_other sources (part.number - 1) (t.n - 1) (Some at) None ne) ∙ t.noted;
+            has_source = ap is_some (get_or-set_other sources (part.number - 1) (t.n - 1) (Some at) None ne) ∙ t.has_source;
             has = map_agree (λ (m : ℕ). get_or (filled_slots numbers rows slots) (m - 1) None)
                 (λ (m : ℕ). get_or slots (m - 1) None) t.of.report.numbers
                 (λ q n there. filled_other numbers rows slots (n - 1) (apart bytes t q n there))
