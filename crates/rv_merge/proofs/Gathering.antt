@@ -124,7 +124,7 @@ module _ (texts : List (List ℕ)) (at : ℕ) (shard : Shard) (sources : List (O
       other_shard : (bytes : List ℕ) (t : IsPartAdded (run_of_shard shard) sources slots bytes) → t.n - 1 ≡ part.number - 1 → ⊥
       other_shard bytes t e =
           false≢true
-          (sym (ap is_some none) ∙ sym (ap (λ (k : ℕ). is_some (get_or sources k None)) e) ∙ t.noted)
+          (sym (ap is_some none) ∙ sym (ap (λ (k : ℕ). is_some (get_or sources k None)) e) ∙ t.has_source)
 
       apart : (bytes : List ℕ) (t : IsPartAdded (run_of_shard shard) sources slots bytes) (q n : ℕ)
           → slice_get t.of.report.numbers q ≡ Some n → (j m : ℕ) → slice_get numbers j ≡ Some m → m - 1 ≡ n - 1 → ⊥
