@@ -105,17 +105,17 @@ module _ (p : Parameters) (files : FileNumbers) (lengths : List ℕ) where
 
   -- a row in front
   closed_with : (row : Row) (error : Option UnitError) (rows : List Row) (any : Bool)
-      → cond {A = Rows} any (Err FileNumber) (option_map_or Err error (cond (is_open (not row.ends) rows) (Err OpenSequence) (Ok (row ∷ rows))))
-      ≡ with_rows (row ∷ []) (cond any (Err FileNumber) (option_map_or Err error (closed_from (not row.ends) rows)))
+      → cond {A = Rows} any (Err FileNumber) (option_map_or Err error (cond (is_open (not row.ends_sequence) rows) (Err OpenSequence) (Ok (row ∷ rows))))
+      ≡ with_rows (row ∷ []) (cond any (Err FileNumber) (option_map_or Err error (closed_from (not row.ends_sequence) rows)))
   closed_with row error rows true = refl
   closed_with row (Some e) rows false = refl
-  closed_with row None rows false = elim (is_open (not row.ends) rows) as (λ b. cond {A = Rows} b (Err OpenSequence) (Ok (row ∷ rows)) ≡ with_rows (row ∷ []) (cond b (Err OpenSequence) (Ok rows))) [
+  closed_with row None rows false = elim (is_open (not row.ends_sequence) rows) as (λ b. cond {A = Rows} b (Err OpenSequence) (Ok (row ∷ rows)) ≡ with_rows (row ∷ []) (cond b (Err OpenSequence) (Ok rows))) [
     | true ↦ refl
     | false ↦ refl
   ]
 
   row_in_front : (row : Row) (begun : Bool) (error : Option UnitError) (rows : List Row) → lacks_file files row ≡ false
-      → checked_from begun error (row ∷ rows) ≡ with_rows (row ∷ []) (checked_from (not row.ends) error rows)
+      → checked_from begun error (row ∷ rows) ≡ with_rows (row ∷ []) (checked_from (not row.ends_sequence) error rows)
   row_in_front row begun error rows l =
       ap (λ b. cond {A = Rows} (b || list_any (lacks_file files) rows) (Err FileNumber) (option_map_or Err error (closed_from begun (row ∷ rows)))) l
       ∙ closed_with row error rows (list_any (lacks_file files) rows)

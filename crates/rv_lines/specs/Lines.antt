@@ -20,7 +20,7 @@ span unit row next = record {
 -- whether a row covers no address: it ends its sequence, or its address is below that of the first row of its sequence, as in the sequence
 -- of code that a linker dropped and moved to the address 2^32 - 1
 abbrev pub covers_nothing : Row → Bool
-covers_nothing row = row.ends || nat_lt row.address row.low
+covers_nothing row = row.ends_sequence || nat_lt row.address row.low
 
 -- the spans of rows, in order, without the rows that cover nothing; the row `before`, if there is one, comes before them, and the last row
 -- has no span

@@ -24,7 +24,7 @@ use Rattle.rv_list_errors.specs.FaultHeads.{borrowed_names}
 use Rattle.rv_list_errors.specs.Explanation.{IsKeyAndValue, IsShownValue, expected_of_error, region_number_text, inserted_text, explained_text}
 use Rattle.rv_list_errors.specs.UnknownKeys.{ExplainsUnknownKey}
 use Rattle.rv_list_errors.specs.declared.fault_text.FaultView.{FaultView}
-use Rattle.rv_list_errors.specs.declared.fault_text.FaultView.TheVariants as look
+use Rattle.rv_list_errors.specs.declared.fault_text.FaultView.TheVariants as fault_view
 use Rattle.rv_list_errors.specs.declared.list.List as listed
 use Rattle.rv_list_errors.specs.declared.explanations.ByteCount.{ByteCount}
 use Rattle.rv_list_errors.specs.declared.explanations.ByteCount.TheVariants as byte_count
@@ -319,8 +319,8 @@ ExplainsFaultOfList list fault message = 0 < fault.job → ExplainsJobFault
 
 -- `message` explains this error of a list that was parsed again; if it is not a document, any text will do
 abbrev pub ExplainsFaultInView : FaultView → JobError → List ℕ → Type 0
-ExplainsFaultInView (look.NoToml text error) fault message = ⊤
-ExplainsFaultInView (look.List list) fault message = ExplainsFaultOfList list fault message
+ExplainsFaultInView (fault_view.NoToml text error) fault message = ⊤
+ExplainsFaultInView (fault_view.List list) fault message = ExplainsFaultOfList list fault message
 
 -- the message is `head`, followed by a text that satisfies the predicate
 abbrev pub HasHeadAndTail : (List ℕ → Type 0) → List ℕ → List ℕ → Type 0
