@@ -34,18 +34,18 @@ first_run reason (Some before ∷ runs) run is accepted =
     let same = same_run reason before (rw (← left) at accepted) in
     rw (← left) (rw same refl)
 
-kept_run : (reason_list : List (Option SkipReason)) (runs : List (Option JobRun)) (index : ℕ) (run : JobRun)
-    → slice_get (skipped_runs reason_list runs) index ≡ Some (Some run) → is_accepted_run run ≡ true
+kept_run : (skip_reasons : List (Option SkipReason)) (runs : List (Option JobRun)) (index : ℕ) (run : JobRun)
+    → slice_get (skipped_runs skip_reasons runs) index ≡ Some (Some run) → is_accepted_run run ≡ true
     → slice_get runs index ≡ Some (Some run)
 unfolding skipped_runs
 kept_run [] runs index run is accepted = cc
-kept_run (reason ∷ reason_list) runs zero run is accepted = first_run reason runs run is accepted
-kept_run (reason ∷ reason_list) runs (suc index) run is accepted =
-    rw (← run_behind runs index) (kept_run reason_list (drop 1 runs) index run is accepted)
+kept_run (reason ∷ skip_reasons) runs zero run is accepted = first_run reason runs run is accepted
+kept_run (reason ∷ skip_reasons) runs (suc index) run is accepted =
+    rw (← run_behind runs index) (kept_run skip_reasons (drop 1 runs) index run is accepted)
 
 pub accepted_from_the_first : (before after : List (Option JobRun)) (index : ℕ) (run : JobRun)
     → AreSkippedFrom before after → slice_get after index ≡ Some (Some run) → is_accepted_run run ≡ true
     → slice_get before index ≡ Some (Some run)
-accepted_from_the_first before _ index run (one_step reason_list) is accepted = kept_run reason_list before index run is accepted
-accepted_from_the_first before _ index run (two_steps reason_list more) is accepted =
-    kept_run reason_list before index run (kept_run more (skipped_runs reason_list before) index run is accepted) accepted
+accepted_from_the_first before _ index run (one_step skip_reasons) is accepted = kept_run skip_reasons before index run is accepted
+accepted_from_the_first before _ index run (two_steps skip_reasons more) is accepted =
+    kept_run skip_reasons before index run (kept_run more (skipped_runs skip_reasons before) index run is accepted) accepted

@@ -6,14 +6,14 @@ use Rattle.rv_accept.specs.declared.runs.SkipReason.{SkipReason}
 use Rattle.rv_accept_text.specs.NewLists.{AreSkippedFrom, two_steps, skipped_runs, one_step}
 use Rattle.rv_accept_text.specs.declared.new_list.NewList.{NewList}
 
-pub left_once : (before : List (Option JobRun)) (reason_list : List (Option SkipReason)) (after : List (Option JobRun))
-    → after ≡ skipped_runs reason_list before → AreSkippedFrom before after
-left_once before reason_list after is = subst (AreSkippedFrom before) (sym is) (one_step reason_list)
+pub left_once : (before : List (Option JobRun)) (skip_reasons : List (Option SkipReason)) (after : List (Option JobRun))
+    → after ≡ skipped_runs skip_reasons before → AreSkippedFrom before after
+left_once before skip_reasons after is = subst (AreSkippedFrom before) (sym is) (one_step skip_reasons)
 
-pub left_twice : {Y : Type 0} (r : Result NewList Y) (before : List (Option JobRun)) (reason_list : List (Option SkipReason))
-    (middle : List (Option JobRun)) → middle ≡ skipped_runs reason_list before
+pub left_twice : {Y : Type 0} (r : Result NewList Y) (before : List (Option JobRun)) (skip_reasons : List (Option SkipReason))
+    (middle : List (Option JobRun)) → middle ≡ skipped_runs skip_reasons before
     → IfOk r (λ new. (more : List (Option SkipReason)) × (new.runs.items ≡ skipped_runs more middle))
     → IfOk r (λ new. AreSkippedFrom before new.runs.items)
-left_twice (Ok new) before reason_list middle is left =
-    subst (AreSkippedFrom before) (sym (rw is at left.1)) (two_steps reason_list left.0)
-left_twice (Err e) before reason_list middle is left = tt
+left_twice (Ok new) before skip_reasons middle is left =
+    subst (AreSkippedFrom before) (sym (rw is at left.1)) (two_steps skip_reasons left.0)
+left_twice (Err e) before skip_reasons middle is left = tt

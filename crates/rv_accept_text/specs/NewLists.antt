@@ -21,12 +21,12 @@ run_or_none (Some run) = run
 -- the runs, where each accepted one is skipped for its reason in the first list, if there is one
 unfoldable pub skipped_runs : List (Option SkipReason) → List (Option JobRun) → List (Option JobRun)
 skipped_runs [] runs = []
-skipped_runs (reason ∷ reason_list) runs = option_map (skipped_run reason) (run_or_none (slice_get runs 0)) ∷ skipped_runs reason_list (drop 1 runs)
+skipped_runs (reason ∷ skip_reasons) runs = option_map (skipped_run reason) (run_or_none (slice_get runs 0)) ∷ skipped_runs skip_reasons (drop 1 runs)
 
 -- the runs are those of `before`, except that some accepted runs were skipped, in one or two rounds
 pub data AreSkippedFrom (before : List (Option JobRun)) : List (Option JobRun) → Type 0 where
-  one_step : (reason_list : List (Option SkipReason)) → AreSkippedFrom before (skipped_runs reason_list before)
-  two_steps : (reason_list more : List (Option SkipReason)) → AreSkippedFrom before (skipped_runs more (skipped_runs reason_list before))
+  one_step : (skip_reasons : List (Option SkipReason)) → AreSkippedFrom before (skipped_runs skip_reasons before)
+  two_steps : (skip_reasons more : List (Option SkipReason)) → AreSkippedFrom before (skipped_runs more (skipped_runs skip_reasons before))
 
 -- ---- jobs whose values would change, when the list is not edited
 

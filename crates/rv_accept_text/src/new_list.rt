@@ -70,8 +70,8 @@ pub fn accept_values(
     ensures skipped_from { IfOk result (λ new. AreSkippedFrom runs.items new.runs.items) }
 {
     let editable = editable_values(alloc, text)?;
-    let reason_list = uneditable_reasons(alloc, jobs, runs.as_slice(), &editable)?;
-    let runs = skipped_runs(alloc, reason_list.as_slice(), runs)?;
+    let skip_reasons = uneditable_reasons(alloc, jobs, runs.as_slice(), &editable)?;
+    let runs = skipped_runs(alloc, skip_reasons.as_slice(), runs)?;
     let Changes { edits, values } = changes_of_runs(alloc, text, jobs, runs.as_slice(), &editable)?;
     if edits.is_empty() && are_intended_jobs(jobs, runs.as_slice(), jobs) {
         return Ok(NewList {
@@ -98,11 +98,11 @@ fn skip_changed_jobs(
 ) -> Result<NewList, AllocError>
     ensures no_text { IfOk result (λ new. new.text ≡ None) }
     ensures unchanged { IfOk result (λ new. intended_jobs jobs.now new.runs.items ≡ jobs.now) }
-    ensures skipped { IfOk result (λ new. (reason_list : List (Option ASkipReason)) × (new.runs.items ≡ skipped_runs reason_list runs.items)) }
+    ensures skipped { IfOk result (λ new. (skip_reasons : List (Option ASkipReason)) × (new.runs.items ≡ skipped_runs skip_reasons runs.items)) }
 {
-    let mut reason_list = Vec::new(alloc);
-    push_change_skip_reasons(&mut reason_list, jobs, runs.as_slice())?;
-    let runs = skipped_runs(alloc, reason_list.as_slice(), runs)?;
+    let mut skip_reasons = Vec::new(alloc);
+    push_change_skip_reasons(&mut skip_reasons, jobs, runs.as_slice())?;
+    let runs = skipped_runs(alloc, skip_reasons.as_slice(), runs)?;
     Ok(NewList {
         text: None,
         values: Vec::new(alloc),
@@ -113,16 +113,16 @@ fn skip_changed_jobs(
 // Appends for each run the reason why its job is skipped, which names the first value that changes; `None` if no value changes.
 #[tactic(auto, unfolding(crate::specs::NewLists::change_skip_reasons))]
 fn push_change_skip_reasons(
-    reason_list: &mut Vec<Option<SkipReason>>,
+    skip_reasons: &mut Vec<Option<SkipReason>>,
     jobs: &[Job],
     runs: &[Option<JobRun>],
 ) -> Result<(), AllocError>
-    ensures { OnOk result (reason_list.new.items ≡ reason_list.old.items ++ change_skip_reasons jobs.now runs.now) }
+    ensures { OnOk result (skip_reasons.new.items ≡ skip_reasons.old.items ++ change_skip_reasons jobs.now runs.now) }
 {
     match (jobs, runs) {
         ([job, jobs @ ..], [run, runs @ ..]) => {
-            reason_list.push(change_skip_reason_if_run(job, run))?;
-            push_change_skip_reasons(reason_list, jobs, runs)
+            skip_reasons.push(change_skip_reason_if_run(job, run))?;
+            push_change_skip_reasons(skip_reasons, jobs, runs)
         }
         ([], _) => Ok(()),
         ([_job, _jobs @ ..], []) => Ok(()),
@@ -174,34 +174,34 @@ fn intended_text(
     }
 }
 
-// Returns the runs, where each accepted one is skipped for its reason in `reason_list`, if there is one.
+// Returns the runs, where each accepted one is skipped for its reason in `skip_reasons`, if there is one.
 fn skipped_runs(
     alloc: Global,
-    reason_list: &[Option<SkipReason>],
+    skip_reasons: &[Option<SkipReason>],
     runs: Vec<Option<JobRun>>,
 ) -> Result<Vec<Option<JobRun>>, AllocError>
-    ensures { IfOk result (λ skipped. skipped.items ≡ skipped_runs reason_list.now runs.items) }
+    ensures { IfOk result (λ skipped. skipped.items ≡ skipped_runs skip_reasons.now runs.items) }
 {
     let mut skipped = Vec::new(alloc);
     let mut runs = runs.into_iter();
-    push_skipped_runs(&mut skipped, reason_list, &mut runs)?;
+    push_skipped_runs(&mut skipped, skip_reasons, &mut runs)?;
     Ok(skipped)
 }
 
-// Appends the runs, where each accepted one is skipped for its reason in `reason_list`, if there is one.
+// Appends the runs, where each accepted one is skipped for its reason in `skip_reasons`, if there is one.
 #[tactic(auto, unfolding(crate::specs::NewLists::skipped_runs))]
 fn push_skipped_runs(
     skipped: &mut Vec<Option<JobRun>>,
-    reason_list: &[Option<SkipReason>],
+    skip_reasons: &[Option<SkipReason>],
     runs: &mut IntoIter<Option<JobRun>>,
 ) -> Result<(), AllocError>
-    ensures { OnOk result (skipped.new.items ≡ skipped.old.items ++ skipped_runs reason_list.now (into_iter_items runs.old)) }
+    ensures { OnOk result (skipped.new.items ≡ skipped.old.items ++ skipped_runs skip_reasons.now (into_iter_items runs.old)) }
 {
-    match reason_list {
-        [reason, reason_list @ ..] => {
+    match skip_reasons {
+        [reason, skip_reasons @ ..] => {
             let run = next_run(runs);
             skipped.push(skipped_if_run(*reason, run))?;
-            push_skipped_runs(skipped, reason_list, runs)
+            push_skipped_runs(skipped, skip_reasons, runs)
         }
         [] => Ok(()),
     }
@@ -268,15 +268,15 @@ fn uneditable_reasons(
     runs: &[Option<JobRun>],
     editable: &EditableValues,
 ) -> Result<Vec<Option<SkipReason>>, AllocError> {
-    let mut reason_list = Vec::new(alloc);
+    let mut skip_reasons = Vec::new(alloc);
     for index in 0..runs.len().min(jobs.len()) {
         let reason = match &runs[index] {
             Some(run) => uneditable_reason(index, &jobs[index], run, editable),
             None => None,
         };
-        reason_list.push(reason)?;
+        skip_reasons.push(reason)?;
     }
-    Ok(reason_list)
+    Ok(skip_reasons)
 }
 
 // Returns the reason why a job is skipped, which names its first value that changes and cannot be edited; `None` if there is no such value.

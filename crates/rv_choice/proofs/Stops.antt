@@ -16,7 +16,7 @@ use Rattle.rv_expect.specs.declared_job.Job.{Job}
 use Rattle.regex.specs.Strings.{regex_source}
 use Rattle.regex.specs.declared.string.regex.Regex.{Regex}
 use Rattle.rv_choice.specs.Choice.{HasDefaultOptions}
-use Rattle.rv_choice.specs.ChoiceStops.{IsChoiceStop, IsNothingLeftStop, IsPatternStop, IsInvalidPatternStop, exclusion, memory, pattern, report}
+use Rattle.rv_choice.specs.ChoiceStops.{IsChoiceStop, IsNothingLeftStop, IsPatternStop, IsInvalidPatternStop, exclusion, out_of_memory, pattern, report}
 use Rattle.rv_choice.specs.ChoiceStops.{unknown}
 use Rattle.rv_choice.specs.ChosenJobs.{AreRequested}
 use Rattle.rv_choice.specs.declared.chooser.Choice.{Choice}
@@ -51,7 +51,7 @@ stop_of_no_exclusion contents args rule jobs stop said =
     let Says : List ℕ → Type 0 =
     λ text. (stop ≡ stops.OutOfMemory) ⊎ IsInvalidPatternStop (codes "--exclude <REGEX>") text stop in
     let some = some_value (borrowed_text args.exclude) Says said in
-    ⊎_elim memory (λ refused. exclusion some.0 some.1.0 (inl refused)) some.1.1
+    ⊎_elim out_of_memory (λ refused. exclusion some.0 some.1.0 (inl refused)) some.1.1
 
 emptied_by : (contents : Option FileContents) (args : RunArgs) (rule : Rule) (jobs : List Job) (notes : List ℕ) (stop : Stop)
     (selection : Vec Bool Global) (regex : Regex) → AreRequested contents args rule jobs (Some selection.items) notes
@@ -80,7 +80,7 @@ pub stop_of_emptied : (contents : Option FileContents) (args : RunArgs) (rule : 
     → (stop ≡ stops.OutOfMemory) ⊎ IsSomeAnd by (λ regex. IsSomeAnd selection
     (λ selection. IsNothingLeftStop args.list.now jobs selection.items regex.now stop))
     → IsChoiceStop contents args rule jobs stop
-stop_of_emptied contents args rule jobs notes stop selection excluded by are source read same (inl is) = memory is
+stop_of_emptied contents args rule jobs notes stop selection excluded by are source read same (inl is) = out_of_memory is
 stop_of_emptied contents args rule jobs notes stop (Some selection) excluded (Some regex) are source read same (inr is) =
     let from = rw (← same) at source in
     emptied_by contents args rule jobs notes stop selection regex.now are from (rw (← same) at read) is
@@ -90,7 +90,7 @@ stop_of_emptied contents args rule jobs notes stop selection excluded None are s
 stop_of_report : (contents : Option FileContents) (args : RunArgs) (rule : Rule) (jobs : List Job) (stop : Stop)
     → (stop ≡ stops.OutOfMemory) ⊎ IsSomeAnd (borrowed_text args.failed) (λ path. IsRequestedUnreadStop contents args.partial path stop)
     → IsChoiceStop contents args rule jobs stop
-stop_of_report contents args rule jobs stop (inl is) = memory is
+stop_of_report contents args rule jobs stop (inl is) = out_of_memory is
 stop_of_report contents args rule jobs stop (inr said) =
     let Says : List ℕ → Type 0 = λ path. IsRequestedUnreadStop contents args.partial path stop in
     let some = some_value (borrowed_text args.failed) Says said in

@@ -13,15 +13,15 @@ use Rattle.rv_expect.specs.declared_row.Row.{Row}
 use Rattle.rv_expect.specs.Rule.{has_passed}
 
 -- a list of job names
-abbrev pub ChosenNames : Type 0
-ChosenNames = List (List ℕ)
+abbrev pub NameList : Type 0
+NameList = List (List ℕ)
 
 -- whether `name` is one of these names
-abbrev pub is_among_names : ChosenNames → List ℕ → Bool
+abbrev pub is_among_names : NameList → List ℕ → Bool
 is_among_names names name = list_any (λ other. bytes_eq other name) names
 
 -- whether `name` is one of the names, or `None` if no names are given
-abbrev pub choice_by_names : Option ChosenNames → List ℕ → Option Bool
+abbrev pub choice_by_names : Option NameList → List ℕ → Option Bool
 choice_by_names names name = option_map (λ names. is_among_names names name) names
 
 -- whether the pattern is found in this name, or `None` if no pattern is given
@@ -37,20 +37,20 @@ is_chosen by_name by_pattern by_report =
 
 -- whether a job with this name is chosen: it is one of the names `only`, the pattern is found in it, or it is one of the names `failed` of
 -- a report; every job is chosen if none of these is given
-abbrev pub is_chosen_name : Option ChosenNames → Option Re → Option ChosenNames → List ℕ → Bool
+abbrev pub is_chosen_name : Option NameList → Option Re → Option NameList → List ℕ → Bool
 is_chosen_name only pattern failed name =
     is_chosen (choice_by_names only name) (choice_by_pattern pattern name) (choice_by_names failed name)
 
 -- for each job, in list order, whether it is chosen by the names `only`, the pattern or the names `failed` of a report
-unfoldable pub selection_by_criteria : Option ChosenNames → Option Re → Option ChosenNames → List Job → List Bool
+unfoldable pub selection_by_criteria : Option NameList → Option Re → Option NameList → List Job → List Bool
 selection_by_criteria only pattern failed jobs = map (λ job. is_chosen_name only pattern failed job.name) jobs
 
 -- the names that these references point to
-abbrev pub borrowed_names : List (Bor (List ℕ)) → ChosenNames
+abbrev pub borrowed_names : List (Bor (List ℕ)) → NameList
 borrowed_names names = map (λ name. name.now) names
 
 -- the names that these references point to, or `None` if there are no references
-abbrev pub optional_names : Option (Bor (List (Bor (List ℕ)))) → Option ChosenNames
+abbrev pub optional_names : Option (Bor (List (Bor (List ℕ)))) → Option NameList
 optional_names names = option_map (λ names. borrowed_names names.now) names
 
 -- the pattern of a compiled regular expression, or `None` if there is none
@@ -75,7 +75,7 @@ abbrev pub count_jobs_without_row : List Job → List Row → ℕ
 count_jobs_without_row jobs rows = length (filter (λ (job : Job). not (has_row_named rows job.name)) jobs)
 
 -- the names of `--only`, or `None` if the option is not given
-abbrev pub requested_names : List (Bor (List ℕ)) → Option ChosenNames
+abbrev pub requested_names : List (Bor (List ℕ)) → Option NameList
 requested_names [] = None
 requested_names (name ∷ more) = Some (borrowed_names (name ∷ more))
 

@@ -75,7 +75,7 @@ IsExclusionStop contents args rule jobs text stop = IsInvalidPatternStop (codes 
 pub data IsChoiceStop (contents : Option FileContents) (args : RunArgs) (rule : Rule) (jobs : List Job) (stop : Stop)
     : Type 0 where
   -- memory ran out
-  memory : stop ≡ stops.OutOfMemory → IsChoiceStop contents args rule jobs stop
+  out_of_memory : stop ≡ stops.OutOfMemory → IsChoiceStop contents args rule jobs stop
   -- a name of `--only` is not the name of a job
   unknown : (name : List ℕ) → unknown_name jobs args.only.items ≡ Some name
       → IsUnknownNameStop args.list.now jobs name stop → IsChoiceStop contents args rule jobs stop

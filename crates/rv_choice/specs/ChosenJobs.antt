@@ -12,14 +12,14 @@ use Rattle.rv_command.specs.Texts.{IsReportReadAt}
 use Rattle.rv_expect.specs.declared.rule.Rule.{Rule}
 use Rattle.rv_expect.specs.declared_job.Job.{Job}
 use Rattle.rv_expect.specs.declared_partial.PartialReport.{PartialReport}
-use Rattle.rv_choice.specs.Choice.{ChosenNames, HasDefaultOptions, is_emptied, selection_by_criteria, failed_job_names, is_found_in_names}
+use Rattle.rv_choice.specs.Choice.{NameList, HasDefaultOptions, is_emptied, selection_by_criteria, failed_job_names, is_found_in_names}
 use Rattle.rv_choice.specs.Choice.{count_jobs_without_row, remaining_selection, requested_names}
 use Rattle.rv_choice.specs.FailedJobNotes.{failed_job_notes}
 use Rattle.rv_choice.specs.UnknownName.{unknown_name}
 
 -- `selection` is the choice by `--only`, by the pattern and by the names `failed` of the failed jobs in the report at `path`, in which
 -- `missing` jobs of the list have no row; it is `None` only if nothing but failed jobs is requested, and no job failed
-pub record AreChosenFrom (path : List ℕ) (failed : ChosenNames) (missing : ℕ) (pattern : Option Re) (args : RunArgs)
+pub record AreChosenFrom (path : List ℕ) (failed : NameList) (missing : ℕ) (pattern : Option Re) (args : RunArgs)
     (jobs : List Job) (selection : Option (List Bool)) (notes : List ℕ) : Type 0 where
   pub notes_are : notes ≡ failed_job_notes path jobs failed missing
   pub selected : IfSome selection (λ selection. selection

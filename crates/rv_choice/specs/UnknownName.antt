@@ -7,7 +7,7 @@ use Rattle.std.specs.List.{find}
 use Rattle.rv_command.specs.Stops.{IsStop}
 use Rattle.rv_command.specs.declared.stop.Stop.{Stop}
 use Rattle.rv_command.specs.declared.stop.Stop.TheVariants as stops
-use Rattle.rv_command.specs.NearestJob.{IsNearJob, IsJobNameSuggestion, job_name}
+use Rattle.rv_command.specs.NearestJob.{IsNearJob, IsNearestJob, job_name}
 use Rattle.rv_expect.specs.declared_job.Job.{Job}
 use Rattle.rv_command.specs.Printable.{printable_text, printable_value}
 use Rattle.rv_choice.specs.Choice.{has_job_named}
@@ -41,7 +41,7 @@ shown_names jobs = names_from 0 (length jobs) (take 20 jobs) ++ codes "\"" ++ mo
 
 -- the job at this index has the most similar name, and it is similar enough to be suggested
 abbrev pub IsSuggestedJob : List Job → List ℕ → ℕ → Type 0
-IsSuggestedJob jobs name index = IsJobNameSuggestion jobs name index × IsNearJob jobs name index
+IsSuggestedJob jobs name index = IsNearestJob jobs name index × IsNearJob jobs name index
 
 -- the hint is the most similar name of a job or, if none is similar enough, the names of the jobs
 abbrev pub IsNameHint : List Job → List ℕ → List ℕ → Type 0

@@ -88,8 +88,8 @@ const MAX_SHOWN: usize = 20;
 fn push_names(message: &mut Vec<u8>, jobs: &[Job]) -> Result<(), AllocError>
     ensures { OnOk result (message.new.items ≡ message.old.items ++ shown_names jobs.now) }
 {
-    let told = jobs.len().min(MAX_SHOWN);
-    push_first_names(message, &jobs[..told], jobs.len())?;
+    let shown = jobs.len().min(MAX_SHOWN);
+    push_first_names(message, &jobs[..shown], jobs.len())?;
     push_text(message, "\"")?;
     push_more_names(message, jobs.len())
 }

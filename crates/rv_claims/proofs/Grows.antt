@@ -66,12 +66,12 @@ took_some p q r pieces k t is = ⊎_elim
     (d.1 ∙ ap (with_draw p) s.0, subst (λ (n : ℕ). AllBelow n p.draws) s.0 d.2, s.1))
     (bool_cases (has_ended p))
 
-pub took_none : (p q : PassView) (r : Option ℕ) (pieces : ℕ) → Takes p q r pieces → r ≡ None → p.draw.pieces ≡ pieces
+pub took_none : (p q : PassView) (r : Option ℕ) (pieces : ℕ) → Takes p q r pieces → r ≡ None → p.counter.pieces ≡ pieces
     → (has_ended q ≡ true) × ((q ≡ p) ⊎ ((n : ℕ) × (q ≡ with_draw p n) × (pieces ≤ n)))
 took_none p q r pieces t is same = ⊎_elim
     (λ (over : has_ended p ≡ true). let d = t.0 over in (ap has_ended d.1 ∙ over, inl d.1))
     (λ (goes : has_ended p ≡ false). let d = t.1 goes in let high = piece_none pieces d.0 (sym is ∙ d.3) in (
-      ap has_ended d.1 ∙ sym (ends_now p.draw.pieces p.draws (entry (first_pass_index p.pass_indices) d.0) (omega arith)),
+      ap has_ended d.1 ∙ sym (ends_now p.counter.pieces p.draws (entry (first_pass_index p.pass_indices) d.0) (omega arith)),
       inr (d.0, d.1, high),
     ))
     (bool_cases (has_ended p))
@@ -85,33 +85,33 @@ since : (s p : PassView) (g : HasDrawnMore s p) → drop (length s.draws) p.draw
 since s p g = ap (drop (length s.draws)) g.2.1 ∙ drop-append_seam s.draws g.2.0
 
 new_more : (s p : PassView) (n : ℕ) → HasDrawnMore s p → new_pieces s (with_draw p n) ≡ new_pieces s p
-    ++ filter (λ k. nat_lt k s.draw.pieces) (n ∷ [])
+    ++ filter (λ k. nat_lt k s.counter.pieces) (n ∷ [])
 unfolding grew_more
 new_more s p n g =
     let e = entry (first_pass_index p.pass_indices) n in
-    let test : ℕ → Bool = λ k. nat_lt k s.draw.pieces in
-    let list : List Entry → List ℕ = λ l. filter (λ k. nat_lt k s.draw.pieces) (numbers l) in
+    let test : ℕ → Bool = λ k. nat_lt k s.counter.pieces in
+    let list : List Entry → List ℕ = λ l. filter (λ k. nat_lt k s.counter.pieces) (numbers l) in
     ap list (since s (with_draw p n) (grew_more s p n g))
     ∙ (ap (filter test) (map-append (λ (x : Entry). x.number) g.2.0 (e ∷ []))
     ∙ (filter-append test (numbers g.2.0) (n ∷ [])
     ∙ ap (λ (l : List ℕ). l ++ filter test (n ∷ [])) (ap list (sym (since s p g)))))
 
-pub new_piece : (s p : PassView) (n : ℕ) → HasDrawnMore s p → n < s.draw.pieces → new_pieces s (with_draw p n) ≡ new_pieces s p
+pub new_piece : (s p : PassView) (n : ℕ) → HasDrawnMore s p → n < s.counter.pieces → new_pieces s (with_draw p n) ≡ new_pieces s p
     ++ n ∷ []
 new_piece s p n g h = new_more s p n g
-    ∙ ap (λ (b : Bool). new_pieces s p ++ cond b (n ∷ []) []) (lt-ltb n s.draw.pieces h)
+    ∙ ap (λ (b : Bool). new_pieces s p ++ cond b (n ∷ []) []) (lt-ltb n s.counter.pieces h)
 
-pub no_new_piece : (s p : PassView) (n : ℕ) → HasDrawnMore s p → s.draw.pieces ≤ n
+pub no_new_piece : (s p : PassView) (n : ℕ) → HasDrawnMore s p → s.counter.pieces ≤ n
     → new_pieces s (with_draw p n) ≡ new_pieces s p
 no_new_piece s p n g h = new_more s p n g
-    ∙ (ap (λ (b : Bool). new_pieces s p ++ cond b (n ∷ []) []) (le-ltb n s.draw.pieces h) ∙ append-nil (new_pieces s p))
+    ∙ (ap (λ (b : Bool). new_pieces s p ++ cond b (n ∷ []) []) (le-ltb n s.counter.pieces h) ∙ append-nil (new_pieces s p))
 
 -- after a piece was made
 pub made_one : {A : Type 0} (f : ℕ → A) (s p q : PassView) (k pieces : ℕ) (had now : List A) (x : A) → HasDrawnMore s p
-    → q ≡ with_draw p k → k < pieces → s.draw.pieces ≡ pieces
+    → q ≡ with_draw p k → k < pieces → s.counter.pieces ≡ pieces
     → had ≡ map f (new_pieces s p) → now ≡ had ++ x ∷ [] → x ≡ f k → HasDrawnMore s q × (now ≡ map f (new_pieces s q))
 made_one f s p q k pieces had now x g is low same was pushed made =
-    let low' : k < s.draw.pieces = omega arith in
+    let low' : k < s.counter.pieces = omega arith in
     subst (λ (z : PassView). HasDrawnMore s z × (now ≡ map f (new_pieces s z))) (sym is) (
       grew_more s p k g,
       pushed
@@ -121,14 +121,14 @@ made_one f s p q k pieces had now x g is low same was pushed made =
 
 -- after the last take
 pub made_all : {A : Type 0} (f : ℕ → A) (s p q : PassView) (r : Option ℕ) (pieces : ℕ) (had : List A) → HasDrawnMore s p
-    → Takes p q r pieces → r ≡ None → s.draw.pieces ≡ pieces → had ≡ map f (new_pieces s p)
+    → Takes p q r pieces → r ≡ None → s.counter.pieces ≡ pieces → had ≡ map f (new_pieces s p)
     → HasDrawnMore s q × (has_ended q ≡ true) × (had ≡ map f (new_pieces s q))
 made_all f s p q r pieces had g t nothing same was =
-    let at : p.draw.pieces ≡ pieces = ap (λ (d : CounterView). d.pieces) g.0 ∙ same in
+    let at : p.counter.pieces ≡ pieces = ap (λ (d : CounterView). d.pieces) g.0 ∙ same in
     let o = took_none p q r pieces t nothing at in
     ⊎_elim
     (λ (e : q ≡ p). (subst (HasDrawnMore s) (sym e) g, o.0, was ∙ ap (λ (z : PassView). map f (new_pieces s z)) (sym e)))
-    (λ (d : (n : ℕ) × (q ≡ with_draw p n) × (pieces ≤ n)). let high : s.draw.pieces ≤ d.0 =
+    (λ (d : (n : ℕ) × (q ≡ with_draw p n) × (pieces ≤ n)). let high : s.counter.pieces ≤ d.0 =
     let h = d.2 in omega arith in (
       subst (HasDrawnMore s) (sym d.1) (grew_more s p d.0 g),
       o.0,

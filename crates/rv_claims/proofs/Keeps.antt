@@ -13,8 +13,8 @@ use Rattle.atomic_table.proofs.Lists.{at_set, set_again}
 use Rattle.rv_claims.specs.declared.view.Entry.{Entry}
 use Rattle.rv_claims.specs.declared.view.View.{View}
 use Rattle.rv_claims.specs.Draws.{total, times, IsIn, Within, IsHistory, past_last_count, entry, entry_count, numbers, HaveSameDraws}
-use Rattle.rv_claims.specs.Draws.{view, first_view, new_seat_view, note_of, joined_view, empty_view, Fits, Runs}
-use Rattle.rv_claims.specs.Draws.{SeatState, first_pass_index, IsDraw, IsSeatRequest, IsLook}
+use Rattle.rv_claims.specs.Draws.{view, first_view, new_seat_view, note_view, joined_view, empty_view, IsValidView, IsCounterState}
+use Rattle.rv_claims.specs.Draws.{SeatState, first_pass_index, IsDraw, IsIndexRequest, IsCounterRead}
 use Rattle.rv_claims.proofs.Sums.{snoc_at, at_lt, in_append, in_left, in_right, in_one, in_none, total-append}
 use Rattle.rv_claims.proofs.Sums.{total-set, term_le, terms_le, some_term, only_term, total_le, total-map, places_few}
 use Rattle.rv_claims.proofs.Sums.{past_no, past_le, history_past, history-snoc, counted_in, weighs_same, views_weigh}
@@ -27,7 +27,7 @@ abbrev state : List ℕ → List (Option (Unit {0})) → List View → St
 state ws hs vs = record { words = ws; homes = hs; views = vs }
 
 -- a draw that some view holds stands in the history
-pub in_history : (pieces : ℕ) (s : St) (r : Runs pieces s) (i : ℕ) (v : View) → get_elem? s.views i ≡ some v
+pub in_history : (pieces : ℕ) (s : St) (r : IsCounterState pieces s) (i : ℕ) (v : View) → get_elem? s.views i ≡ some v
     → Within v.draws r.history
 in_history pieces s r i v at e here =
     counted_in e r.history (omega (
@@ -39,18 +39,18 @@ in_history pieces s r i v at e here =
     ))
 
 -- its number is below the length
-pub below_length : (pieces : ℕ) (s : St) (r : Runs pieces s) (i : ℕ) (v : View) → get_elem? s.views i ≡ some v
+pub below_length : (pieces : ℕ) (s : St) (r : IsCounterState pieces s) (i : ℕ) (v : View) → get_elem? s.views i ≡ some v
     → (e : Entry) → IsIn e v.draws → e.number < length r.history
 below_length pieces s r i v at e here =
     let t = in_history pieces s r i v at e here in
     let n = r.is_history t.0 e t.1 in let l = at_lt r.history t.0 e t.1 in omega arith
 
-pub once_each : (pieces : ℕ) (s : St) (r : Runs pieces s) (p : ℕ) → p < 64
+pub once_each : (pieces : ℕ) (s : St) (r : IsCounterState pieces s) (p : ℕ) → p < 64
     → total (λ v. times p v.pass_indices) s.views ≤ 1
 once_each pieces s r p h = omega (arith, r.indices_held p h, r.index_words p h)
 
 -- word 0 is at most pieces + 64
-pub bounded : (pieces : ℕ) (s : St) (r : Runs pieces s) → length r.history ≤ pieces + 64
+pub bounded : (pieces : ℕ) (s : St) (r : IsCounterState pieces s) → length r.history ≤ pieces + 64
 bounded pieces s r = omega (
   arith,
   history_past pieces r.history r.is_history,
@@ -60,30 +60,30 @@ bounded pieces s r = omega (
   places_few s.views (λ j v at. (r.views j v at).pass_indices) (once_each pieces s r),
 )
 
-fits_longer : (pieces : ℕ) (h : List Entry) (e : Entry) (v : View) → Fits pieces h v
-    → Fits pieces (h ++ e ∷ []) v
+fits_longer : (pieces : ℕ) (h : List Entry) (e : Entry) (v : View) → IsValidView pieces h v
+    → IsValidView pieces (h ++ e ∷ []) v
 fits_longer pieces h e v f =
     record { pass_indices = f.pass_indices; own = f.own; few = f.few; noted = λ x i. in_left h (e ∷ []) x (f.noted x i) }
 
 -- what all views but one had to meet, and that one now
 each_set : (pieces : ℕ) (h : List Entry) (vs : List View) (j : ℕ) (w : View)
-    → ((i : ℕ) (v : View) → get_elem? vs i ≡ some v → Fits pieces h v) → Fits pieces h w
+    → ((i : ℕ) (v : View) → get_elem? vs i ≡ some v → IsValidView pieces h v) → IsValidView pieces h w
     → (i : ℕ) (v : View)
-    → get_elem? (set vs j w) i ≡ some v → Fits pieces h v
+    → get_elem? (set vs j w) i ≡ some v → IsValidView pieces h v
 each_set pieces h vs j w all mine i v at =
-    ⊎_elim (λ (t : (i ≡ j) × (w ≡ v)). subst (Fits pieces h) t.1 mine)
+    ⊎_elim (λ (t : (i ≡ j) × (w ≡ v)). subst (IsValidView pieces h) t.1 mine)
     (λ (t : (i ≢ j) × (get_elem? vs i ≡ some v)). all i v t.1) (at_set vs j i w v at)
 
 each_snoc : (pieces : ℕ) (h : List Entry) (vs : List View) (w : View)
-    → ((i : ℕ) (v : View) → get_elem? vs i ≡ some v → Fits pieces h v) → Fits pieces h w
+    → ((i : ℕ) (v : View) → get_elem? vs i ≡ some v → IsValidView pieces h v) → IsValidView pieces h w
     → (i : ℕ) (v : View)
-    → get_elem? (vs ++ w ∷ []) i ≡ some v → Fits pieces h v
+    → get_elem? (vs ++ w ∷ []) i ≡ some v → IsValidView pieces h v
 each_snoc pieces h vs w all mine i v at =
     ⊎_elim (λ (t : get_elem? vs i ≡ some v). all i v t)
-    (λ (t : (i ≡ length vs) × (w ≡ v)). subst (Fits pieces h) t.1 mine) (snoc_at vs w v i at)
+    (λ (t : (i ≡ length vs) × (w ≡ v)). subst (IsValidView pieces h) t.1 mine) (snoc_at vs w v i at)
 
 pub opens : (pieces : ℕ) (ws : List ℕ) → length ws ≡ 65 → get_or ws 0 0 ≡ 0 → get_or ws 1 0 ≡ 1
-    → ((p : ℕ) → 1 < p → p < 65 → get_or ws p 0 ≡ 0) → Runs pieces (opening ws [] (first_view pieces))
+    → ((p : ℕ) → 1 < p → p < 65 → get_or ws p 0 ≡ 0) → IsCounterState pieces (opening ws [] (first_view pieces))
 opens pieces ws wide zeroth first others = record {
   history = [];
   is_history = λ j e at. absurd (some-ne-none e (sym at));
@@ -97,7 +97,7 @@ opens pieces ws wide zeroth first others = record {
       λ p h. dite (ℕ_discrete 0 p) (λ e. subst (λ (q : ℕ). get_or ws (q + 1) 0 ≤ 1) e (omega (arith, first)))
       (λ ne. let o = others (p + 1) (omega arith) (omega arith) in omega arith);
   views = λ i v at. ⊎_elim (λ (t : get_elem? [] i ≡ some v). absurd (some-ne-none v (sym t)))
-      (λ (t : (i ≡ 0) × (first_view pieces ≡ v)). subst (Fits pieces []) t.1
+      (λ (t : (i ≡ 0) × (first_view pieces ≡ v)). subst (IsValidView pieces []) t.1
       (record {
         pass_indices = λ p in-it. let e = in_one 0 p in-it in
             omega arith;
@@ -111,7 +111,7 @@ opens pieces ws wide zeroth first others = record {
 -- a draw
 pub draws : (pieces slots id : ℕ) (m : SeatState) → pieces ≤ 4096 → past_last_count pieces m.0.draws ≡ 0
     → 0 < length m.0.pass_indices
-    → Allows (Runs pieces) slots id m 0 (λ n. (n + 1) % 2 ^ 64) (IsDraw (step slots 0 1 0 none) m)
+    → Allows (IsCounterState pieces) slots id m 0 (λ n. (n + 1) % 2 ^ 64) (IsDraw (step slots 0 1 0 none) m)
 draws pieces slots id m most going sits s r _ at small =
     let v = m.0 in
     let n : ℕ = get_or s.words 0 0 in
@@ -175,15 +175,15 @@ draws pieces slots id m most going sits s r _ at small =
     first_in (p ∷ ps) h = (0, refl)
 
 -- a step that leaves the words and this view as they were
-unmoved : (pieces : ℕ) (s : St) (r : Runs pieces s) (i id : ℕ) (m : SeatState) → get_elem? s.views id ≡ some m.0
-    → Runs pieces (stepped s i (get_or s.words i 0) id m.1 m.0 keeps)
+unmoved : (pieces : ℕ) (s : St) (r : IsCounterState pieces s) (i id : ℕ) (m : SeatState) → get_elem? s.views id ≡ some m.0
+    → IsCounterState pieces (stepped s i (get_or s.words i 0) id m.1 m.0 keeps)
 unmoved pieces s r i id m at =
-    subst (λ (t : List ℕ × List View). Runs pieces (state t.0 s.homes t.1))
+    subst (λ (t : List ℕ × List View). IsCounterState pieces (state t.0 s.homes t.1))
     (λ k. (sym (set-get_or s.words i 0) k, sym (set_again s.views id m.0 at) k)) r
 
 -- a look
 pub looks : (pieces slots id : ℕ) (m : SeatState)
-    → Allows (Runs pieces) slots id m 0 (λ n. n) (IsLook (step slots 0 0 0 none) m)
+    → Allows (IsCounterState pieces) slots id m 0 (λ n. n) (IsCounterRead (step slots 0 0 0 none) m)
 looks pieces slots id m s r _ at small = (
   m.0,
   keeps,
@@ -215,7 +215,7 @@ looks pieces slots id m s r _ at small = (
 
 -- sitting
 pub sits : (pieces slots id : ℕ) (m : SeatState) (p k : ℕ) → p < 64 → k ≡ p + 1
-    → Allows (Runs pieces) slots id m k (λ _. 1) (IsSeatRequest (step slots k 1 0 none) m)
+    → Allows (IsCounterState pieces) slots id m k (λ _. 1) (IsIndexRequest (step slots k 1 0 none) m)
 sits pieces slots id m p k low is s r _ at small =
     let v = m.0 in
     let n : ℕ = get_or s.words k 0 in
@@ -267,7 +267,7 @@ sits pieces slots id m p k low is s r _ at small =
       v,
       keeps,
       tt,
-      subst (λ (x : ℕ). Runs pieces (stepped s k x id m.1 v keeps)) one (unmoved pieces s r k id m at),
+      subst (λ (x : ℕ). IsCounterState pieces (stepped s k x id m.1 v keeps)) one (unmoved pieces s r k id m at),
       record { slots = refl; free = λ z. absurd (taken z); taken = λ _. refl },
     ))
   where
@@ -275,7 +275,7 @@ sits pieces slots id m p k low is s r _ at small =
     place_low q (zero, e) = let e' : k - 1 ≡ q = some-injective (k - 1) q e in omega arith
     place_low q (suc j, e) = (r.views id m.0 at).pass_indices q (j, e)
 
-unseated_fits : (pieces : ℕ) (h : List Entry) (v : View) → Fits pieces h (new_seat_view v)
+unseated_fits : (pieces : ℕ) (h : List Entry) (v : View) → IsValidView pieces h (new_seat_view v)
 unseated_fits pieces h v =
     record {
       pass_indices = λ p i. absurd (in_none p i);
@@ -286,11 +286,11 @@ unseated_fits pieces h v =
 
 -- a new seat with no place and no number, with some noted entries that stand in the history
 splits : (pieces id : ℕ) (v : View) (w : View) → w.pass_indices ≡ [] → w.draws ≡ []
-    → ((s : St) (r : Runs pieces s) → get_elem? s.views id ≡ some v → Within w.noted r.history)
-    → Splits (Runs pieces) id v v w
+    → ((s : St) (r : IsCounterState pieces s) → get_elem? s.views id ≡ some v → Within w.noted r.history)
+    → Splits (IsCounterState pieces) id v v w
 splits pieces id v w no_place no_draw notes s r at =
     let same : set s.views id v ≡ s.views = set_again s.views id v at in
-    subst (λ (vs : List View). Runs pieces (state s.words s.homes (vs ++ w ∷ []))) (sym same) (record {
+    subst (λ (vs : List View). IsCounterState pieces (state s.words s.homes (vs ++ w ∷ []))) (sym same) (record {
       history = r.history;
       is_history = r.is_history;
       word_count = r.word_count;
@@ -317,16 +317,16 @@ splits pieces id v w no_place no_draw notes s r at =
     })
 
 -- a new seat
-pub frees : (pieces id : ℕ) (v : View) → Splits (Runs pieces) id v v (new_seat_view v)
+pub frees : (pieces id : ℕ) (v : View) → Splits (IsCounterState pieces) id v v (new_seat_view v)
 frees pieces id v = splits pieces id v (new_seat_view v) refl refl (λ s r at e i. absurd (in_none e i))
 
 -- a copy of the draws for another seat
-pub notes : (pieces id : ℕ) (v : View) → Splits (Runs pieces) id v v (note_of v)
-notes pieces id v = splits pieces id v (note_of v) refl refl (λ s r at. in_history pieces s r id v at)
+pub notes : (pieces id : ℕ) (v : View) → Splits (IsCounterState pieces) id v v (note_view v)
+notes pieces id v = splits pieces id v (note_view v) refl refl (λ s r at. in_history pieces s r id v at)
 
 -- two seats in one
 pub joins : (pieces id : ℕ) (v : View) (other : ℕ) (w : View)
-    → Joins (Runs pieces) id v other w (joined_view v w) empty_view
+    → Joins (IsCounterState pieces) id v other w (joined_view v w) empty_view
 joins pieces id v other w s r at apart there =
     let b : View = joined_view v w in
     let vs : List View = set s.views id b in
@@ -380,7 +380,7 @@ times_in : (p : ℕ) (ps : List ℕ) → IsIn p ps → 1 ≤ times p ps
 times_in p ps i = omega (arith, term_le (one_at p) ps i.0 p i.1, one_at-same p)
 
 -- a view with every place that was given holds the whole history
-pub whole : (pieces : ℕ) (s : St) (r : Runs pieces s) (id : ℕ) (v : View) → get_elem? s.views id ≡ some v
+pub whole : (pieces : ℕ) (s : St) (r : IsCounterState pieces s) (id : ℕ) (v : View) → get_elem? s.views id ≡ some v
     → ((p : ℕ) → p < 64 → get_or s.words (p + 1) 0 ≡ 1 → IsIn p v.pass_indices) → HaveSameDraws v.draws r.history
 whole pieces s r id v at all x =
     let empty : (k : ℕ) (u : View) → k ≢ id → get_elem? s.views k ≡ some u → entry_count x u.draws ≡ 0 =

@@ -18,8 +18,8 @@ use Rattle.atomic_table.specs.Seated.{TableId}
 use Rattle.atomic_table.specs.Table.{Step, opening, Final, Seen}
 use Rattle.rv_claims.specs.declared.view.Entry.{Entry}
 use Rattle.rv_claims.specs.Draws.{times, joined_view, IsIn, IsHistory, Within, past_last_count, entry, numbers, first_pass_index}
-use Rattle.rv_claims.specs.Draws.{view, SeatState, IsDraw, IsSeatRequest, first_view, Runs}
-use Rattle.rv_claims.specs.Passes.{pass_of, with_draw, piece_of, IsValidPass, pass_view, opening_row, IsWholeHistory}
+use Rattle.rv_claims.specs.Draws.{view, SeatState, IsDraw, IsIndexRequest, first_view, IsCounterState}
+use Rattle.rv_claims.specs.Passes.{pass_of, with_draw, piece_of, IsValidPass, pass_view, initial_words, IsWholeHistory}
 use Rattle.rv_claims.proofs.Keeps.{opens, whole, each_once}
 use Rattle.rv_claims.proofs.Sums.{in_append, in_one, in_left, in_right, in_none, total-append, term_le, one_at}
 use Rattle.rv_claims.proofs.Sums.{one_at-same, one_past, past_yes, past_no}
@@ -90,7 +90,7 @@ row_at zero p = refl
 row_at (suc n) zero = refl
 row_at (suc n) (suc p) = row_at n p
 
-pub opening_free : (p : ℕ) → 1 < p → p < 65 → ◌≡◌ {A = ℕ} (get_or opening_row p 0) 0
+pub opening_free : (p : ℕ) → 1 < p → p < 65 → ◌≡◌ {A = ℕ} (get_or initial_words p 0) 0
 opening_free zero h l = absurd (omega arith)
 opening_free (suc zero) h l = absurd (omega arith)
 opening_free (suc (suc p)) h l = row_at 63 p
@@ -107,9 +107,9 @@ opened_pass pieces m e = subst (λ (x : SeatState). IsValidPass x 1 false) (sym 
   stopped = sym (le-ltb 0 0 (omega arith));
 })
 
-pub opens_row : (pieces : ℕ) (ws : List ℕ) → ws ≡ opening_row → Runs pieces (opening ws [] (first_view pieces))
-opens_row pieces ws e = subst (λ (l : List ℕ). Runs pieces (opening l [] (first_view pieces))) (sym e)
-    (opens pieces opening_row refl refl refl opening_free)
+pub opens_row : (pieces : ℕ) (ws : List ℕ) → ws ≡ initial_words → IsCounterState pieces (opening ws [] (first_view pieces))
+opens_row pieces ws e = subst (λ (l : List ℕ). IsCounterState pieces (opening l [] (first_view pieces))) (sym e)
+    (opens pieces initial_words refl refl refl opening_free)
 
 pub some_past : (n m : ℕ) → nat_lt 0 (n + m) ≡ (nat_lt 0 n || nat_lt 0 m)
 some_past zero m = ap (nat_lt 0) (zero-add m)
@@ -162,7 +162,7 @@ small_power place low = let h : 2 ^ place < 2 ^ 64 = pow-lt low in
 
 -- a seat that sat
 pub sat_there : {st : Step (Unit {0})} (m m' : SeatState) (pieces place n : ℕ) → st.word ≡ place + 1
-    → m ≡ (view pieces [] [] [], []) → n ≡ 0 → IsSeatRequest st m n m' → m' ≡ (view pieces (place ∷ []) [] [], [])
+    → m ≡ (view pieces [] [] [], []) → n ≡ 0 → IsIndexRequest st m n m' → m' ≡ (view pieces (place ∷ []) [] [], [])
 sat_there {st} m m' pieces place n word blank free sat = let k : st.word - 1 ≡ place = omega arith in
     (λ i. (sat.free free i, sat.slots i))
     ∙ (λ i. (view (blank i).0.pieces (k i ∷ (blank i).0.pass_indices) (blank i).0.draws (blank i).0.noted, (blank i).1))
@@ -243,7 +243,7 @@ read_one (x ∷ xs) (suc i) e = read_one xs i e
 
 -- a pass with every place that was given has all draws
 pub ends_whole : (pieces : ℕ) (ws : List ℕ) (xs : List (Unit {0})) (id : ℕ) (m : SeatState) (bits : ℕ) (ended : Bool)
-    → IsValidPass m bits ended → Final (Seen (Runs pieces) id m.0) ws xs
+    → IsValidPass m bits ended → Final (Seen (IsCounterState pieces) id m.0) ws xs
     → ((p : ℕ) → p < 64 → get_elem? ws (p + 1) ≡ some 1 → bit_at bits p ≡ 1) → IsWholeHistory m.0.draws
 ends_whole pieces ws xs id m bits ended pass final all =
     let s = final.0 in

@@ -81,8 +81,8 @@ abbrev pub new_seat_view : View → View
 new_seat_view v = view v.pieces [] [] []
 
 -- the view of a new seat without a pass index and without draws of its own, which has noted all draws of the seat with the view `v`
-abbrev pub note_of : View → View
-note_of v = view v.pieces [] [] v.draws
+abbrev pub note_view : View → View
+note_view v = view v.pieces [] [] v.draws
 
 -- the view of a seat that two seats were joined into: the pass indices, draws and noted draws of both
 abbrev pub joined_view : View → View → View
@@ -96,7 +96,7 @@ empty_view = view 0 [] [] []
 
 -- the view of a seat is valid: its pass indices are below 64, each of its draws was made under one of them, the number of its draws past the
 -- last chunk is at most the number of its indices, and the draws that it has noted are in the history
-pub record Fits (pieces : ℕ) (history : List Entry) (v : View) : Type 0 where
+pub record IsValidView (pieces : ℕ) (history : List Entry) (v : View) : Type 0 where
   pub pass_indices : (p : ℕ) → IsIn p v.pass_indices → p < 64
   pub own : (e : Entry) → IsIn e v.draws → IsIn e.pass_index v.pass_indices
   pub few : past_last_count pieces v.draws ≤ length v.pass_indices
@@ -104,7 +104,7 @@ pub record Fits (pieces : ℕ) (history : List Entry) (v : View) : Type 0 where
 
 -- the invariant of a counter's words and of the views of all seats: the seats together hold the draws of one history, which word 0 counts;
 -- at most one seat holds a pass index, and the index's word is 1 if one does, and otherwise 0
-pub record Runs (pieces : ℕ) (s : State (Unit {0}) View) : Type 0 where
+pub record IsCounterState (pieces : ℕ) (s : State (Unit {0}) View) : Type 0 where
   pub history : List Entry
   pub is_history : IsHistory history
   pub word_count : length s.words ≡ 65
@@ -116,7 +116,7 @@ pub record Runs (pieces : ℕ) (s : State (Unit {0}) View) : Type 0 where
   pub indices_held : (p : ℕ) → p < 64
       → total (λ v. times p v.pass_indices) s.views ≡ slice_index s.words (p + 1)
   pub index_words : (p : ℕ) → p < 64 → slice_index s.words (p + 1) ≤ 1
-  pub views : (i : ℕ) (v : View) → get_elem? s.views i ≡ some v → Fits pieces history v
+  pub views : (i : ℕ) (v : View) → get_elem? s.views i ≡ some v → IsValidView pieces history v
 
 -- ---- what a seat learns from a step
 
@@ -153,14 +153,14 @@ pub record IsDraw (st : Step (Unit {0})) (me : SeatState) (n : ℕ) (after : Sea
 
 -- the step requests the pass index `st.word` - 1: if the word of this index was 0, the seat gets the index; otherwise another seat has it
 -- already
-pub record IsSeatRequest (st : Step (Unit {0})) (me : SeatState) (n : ℕ) (after : SeatState) : Type 0 where
+pub record IsIndexRequest (st : Step (Unit {0})) (me : SeatState) (n : ℕ) (after : SeatState) : Type 0 where
   pub slots : slots_of after ≡ slots_of me
   pub free : n ≡ 0 → view_of after ≡ view_with_index (view_of me) (st.word - 1)
   pub taken : n ≢ 0 → view_of after ≡ view_of me
 
 -- the step reads word 0 and changes nothing: the draws of the seat and the draws that it has noted are in one history, and no pass index
 -- occurs twice in its view
-pub record IsLook (st : Step (Unit {0})) (me : SeatState) (n : ℕ) (after : SeatState) : Type 0 where
+pub record IsCounterRead (st : Step (Unit {0})) (me : SeatState) (n : ℕ) (after : SeatState) : Type 0 where
   pub same : after ≡ me
   pub history : List Entry
   pub is_history : IsHistory history

@@ -7,7 +7,7 @@ use Rattle.rv_claims.specs.Passes.{PassView}
 
 -- the pass `q` is the pass `p` after some number of further draws, possibly none
 abbrev pub HasDrawnMore : PassView → PassView → Type 0
-HasDrawnMore p q = (q.draw ≡ p.draw) × (q.pass_indices ≡ p.pass_indices)
+HasDrawnMore p q = (q.counter ≡ p.counter) × (q.pass_indices ≡ p.pass_indices)
     × ((more : List Entry) × (q.draws ≡ p.draws ++ more))
 
 -- the drawn numbers that are below the number of chunks, in order
@@ -16,4 +16,4 @@ pieces_among pieces draws = filter (λ n. nat_lt n pieces) (numbers draws)
 
 -- the numbers of the chunks that the pass `p` drew until it became `q`, in order
 abbrev pub new_pieces : PassView → PassView → List ℕ
-new_pieces p q = pieces_among p.draw.pieces (drop (length p.draws) q.draws)
+new_pieces p q = pieces_among p.counter.pieces (drop (length p.draws) q.draws)

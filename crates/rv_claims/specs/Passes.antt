@@ -14,21 +14,21 @@ pub record CounterView : Type 0 where
 
 -- a pass: the counter that it belongs to, its pass indices, and its draws in order
 pub record PassView : Type 0 where
-  pub draw : CounterView
+  pub counter : CounterView
   pub pass_indices : List ℕ
   pub draws : List Entry
 
 -- the pass of this counter with these pass indices and draws
 abbrev pub pass_of : CounterView → List ℕ → List Entry → PassView
-pass_of counter pass_indices draws = record { draw = counter; pass_indices = pass_indices; draws = draws }
+pass_of counter pass_indices draws = record { counter = counter; pass_indices = pass_indices; draws = draws }
 
 -- whether a pass has ended: it has drawn a number past the last chunk
 abbrev pub has_ended : PassView → Bool
-has_ended p = nat_lt 0 (past_last_count p.draw.pieces p.draws)
+has_ended p = nat_lt 0 (past_last_count p.counter.pieces p.draws)
 
 -- the pass after the draw of the number `n`, under its first pass index
 abbrev pub with_draw : PassView → ℕ → PassView
-with_draw p n = pass_of p.draw p.pass_indices (p.draws ++ entry (first_pass_index p.pass_indices) n ∷ [])
+with_draw p n = pass_of p.counter p.pass_indices (p.draws ++ entry (first_pass_index p.pass_indices) n ∷ [])
 
 -- each drawn number is below `n`
 abbrev pub AllBelow : ℕ → List Entry → Type 0
@@ -68,8 +68,8 @@ pass_view table me = let v = view_of me in
     pass_of (record { table = table; pieces = v.pieces }) v.pass_indices v.draws
 
 -- the words of a new counter: no draws, and pass index 0 assigned
-abbrev pub opening_row : List ℕ
-opening_row = 0 ∷ 1 ∷ replicate 63 0
+abbrev pub initial_words : List ℕ
+initial_words = 0 ∷ 1 ∷ replicate 63 0
 
 -- `p` is a pass of this counter without draws, whose only pass index is not among the bits `assigned`
 abbrev pub IsNewPass : CounterView → ℕ → PassView → Type 0

@@ -6,10 +6,12 @@ ghost use mathlib.Core.Option.{some};
 ghost use lib.ListN.{get_elem?};
 ghost use Rattle.rv_claims.specs.Draws.{numbers, times, IsIn, view};
 ghost use Rattle.rv_claims.specs.Passes.{pass_of, has_ended, with_draw, AllBelow, piece_of, InOneHistory, AreDisjoint};
-ghost use Rattle.rv_claims.specs.Passes.{IsWholeHistory, opening_row, IsNewPass};
+ghost use Rattle.rv_claims.specs.Passes.{IsWholeHistory, initial_words, IsNewPass};
 ghost use Rattle.rv_claims.specs.Split.{pass_of_error};
 
-use crate::counter_rule::{CounterRule, Draw, JoinedSeat, Look, NewSeat, Note, Sit};
+use crate::counter_rule::{
+    CounterRead, CounterRule, Draw, IndexRequest, JoinedSeat, NewSeat, Note,
+};
 use crate::pass::{Pass, SplitError};
 use crate::view::View;
 use atomic_table::{Closed, Seat, Table};
@@ -62,11 +64,11 @@ impl Claims {
     /// Draws a number, and returns it if it is the number of a chunk. If the number is past the last chunk, the pass has ended; `None` is
     /// returned then and for every later draw.
     pub fn take(&self, pass: &mut Pass) -> Option<u64>
-        requires { pass.old.draw ≡ self.now }
+        requires { pass.old.counter ≡ self.now }
         ensures none { has_ended pass.old ≡ true → (result ≡ None) × (pass.new ≡ pass.old) }
         ensures drawn { has_ended pass.old ≡ false → (n : ℕ) × (pass.new ≡ with_draw pass.old n)
             × AllBelow n pass.old.draws × (result ≡ piece_of self.now.pieces n) }
-        ensures draw { pass.new.draw ≡ self.now }
+        ensures draw { pass.new.counter ≡ self.now }
     {
         if pass.ended {
             return None;
@@ -82,7 +84,7 @@ impl Claims {
 
     /// Returns the pass unchanged, and a second one with its own index and no draws. Returns an error if all indices are assigned.
     pub fn split(&self, mut pass: Pass) -> Result<(Pass, Pass), SplitError>
-        requires { pass.draw ≡ self.now }
+        requires { pass.counter ≡ self.now }
         ensures ok { IfOk result (λ t. (t.0 ≡ pass)
             × ((p : ℕ) × (p < 64) × ¬ (IsIn p pass.pass_indices)
             × (t.1 ≡ pass_of self.now (p ∷ []) []))) }
@@ -98,8 +100,8 @@ impl Claims {
     /// Merges two passes into one with the indices and draws of both, first the ones of `first`, then the ones of `second`. The result has
     /// ended if one of the passes has.
     pub fn join(&self, mut first: Pass, second: Pass) -> Pass
-        requires first { first.draw ≡ self.now }
-        requires second { second.draw ≡ self.now }
+        requires first { first.counter ≡ self.now }
+        requires second { second.counter ≡ self.now }
         ensures { result
             ≡ pass_of self.now (first.pass_indices ++ second.pass_indices) (first.draws ++ second.draws) }
     {
@@ -114,8 +116,8 @@ impl Claims {
 
     /// Returns both passes unchanged, and proves that their draws are in one history and that no number is in both.
     pub fn meet(&self, mut first: Pass, mut second: Pass) -> (Pass, Pass)
-        requires first { first.draw ≡ self.now }
-        requires second { second.draw ≡ self.now }
+        requires first { first.counter ≡ self.now }
+        requires second { second.counter ≡ self.now }
         ensures first { result.0 ≡ first }
         ensures second { result.1 ≡ second }
         ensures history { InOneHistory first.draws second.draws }
@@ -124,21 +126,21 @@ impl Claims {
         // Unreachable: the joined pass would have an index twice, and the read of word 0 rules that out.
         if first.bits & second.bits != 0 {
             let mut all = self.join(first, second);
-            self.table.shared.load::<Look>(&mut all.seat, 0);
+            self.table.shared.load::<CounterRead>(&mut all.seat, 0);
             unreachable!()
         }
         let note = self.table.shared.split_seat::<Note>(&mut first.seat);
         self.table
             .shared
             .join_seat::<JoinedSeat>(&mut second.seat, note);
-        self.table.shared.load::<Look>(&mut second.seat, 0);
+        self.table.shared.load::<CounterRead>(&mut second.seat, 0);
         (first, second)
     }
 
     /// Closes the counter, and returns whether the pass holds every assigned index. If so, the pass has made all draws of the counter; if
     /// it has ended as well, it holds each chunk exactly once.
     pub fn finish(self, pass: Pass) -> bool
-        requires { pass.draw ≡ self }
+        requires { pass.counter ≡ self }
         ensures all { result ≡ true → IsWholeHistory pass.draws }
         ensures pieces { result ≡ true → has_ended pass ≡ true
             → (x : ℕ) → x < self.pieces → times x (numbers pass.draws) ≡ 1 }
@@ -163,13 +165,17 @@ impl Claims {
         requires blank { seat.me ≡ (view self.now.pieces [] [] [], []) }
         ensures { IfSome result (λ p. IsNewPass self.now assigned p) }
     {
-        for place in 0..PASS_INDICES {
-            if assigned >> place & 1 == 0
-                && self.table.shared.swap::<Sit>(&mut seat, place + 1, 1) == 0
+        for index in 0..PASS_INDICES {
+            if assigned >> index & 1 == 0
+                && self
+                    .table
+                    .shared
+                    .swap::<IndexRequest>(&mut seat, index + 1, 1)
+                    == 0
             {
                 return Some(Pass {
                     seat,
-                    bits: 1 << place,
+                    bits: 1 << index,
                     ended: false,
                 });
             }
@@ -180,7 +186,7 @@ impl Claims {
 
 /// Returns the words of a new counter: no draws, and index 0 assigned.
 fn initial_words() -> [u64; 65]
-    ensures { result ≡ opening_row }
+    ensures { result ≡ initial_words }
 {
     let mut words = [0u64; 65];
     words[1] = 1;

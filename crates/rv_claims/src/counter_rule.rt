@@ -9,9 +9,9 @@ use atomic_table::{Join, Play, Split, TableRule};
 pub(crate) struct CounterRule;
 
 impl TableRule<(), View, u64> for CounterRule {
-    ghost use Rattle.rv_claims.specs.Draws.{Runs, first_view};
+    ghost use Rattle.rv_claims.specs.Draws.{IsCounterState, first_view};
 
-    ghost holds = { Runs };
+    ghost holds = { IsCounterState };
 
     ghost first = { first_view };
 }
@@ -26,21 +26,21 @@ impl Play<(), View> for Draw {
 }
 
 /// A request for an index: writes 1 to the index's word. The seat gets the index if the word was 0 before.
-pub(crate) struct Sit;
+pub(crate) struct IndexRequest;
 
-impl Play<(), View> for Sit {
-    ghost use Rattle.rv_claims.specs.Draws.{IsSeatRequest};
+impl Play<(), View> for IndexRequest {
+    ghost use Rattle.rv_claims.specs.Draws.{IsIndexRequest};
 
-    ghost then = { IsSeatRequest };
+    ghost then = { IsIndexRequest };
 }
 
 /// A read of word 0. The seat learns that its draws and the draws that it has noted are in one history.
-pub(crate) struct Look;
+pub(crate) struct CounterRead;
 
-impl Play<(), View> for Look {
-    ghost use Rattle.rv_claims.specs.Draws.{IsLook};
+impl Play<(), View> for CounterRead {
+    ghost use Rattle.rv_claims.specs.Draws.{IsCounterRead};
 
-    ghost then = { IsLook };
+    ghost then = { IsCounterRead };
 }
 
 /// A new seat, without an index and without draws.
@@ -58,11 +58,11 @@ impl Split<View> for NewSeat {
 pub(crate) struct Note;
 
 impl Split<View> for Note {
-    ghost use Rattle.rv_claims.specs.Draws.{note_of};
+    ghost use Rattle.rv_claims.specs.Draws.{note_view};
 
     ghost left = { λ v. v };
 
-    ghost right = { note_of };
+    ghost right = { note_view };
 }
 
 /// A join of two seats: one of them gets what both hold, and the other is left empty.

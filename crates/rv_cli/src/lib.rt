@@ -1,6 +1,6 @@
 //! The command line of `rvfleet`, which `clap` parses, and what the command lines of both programs share.
 //!
-//! [`rvfleet::read_words`] parses the arguments of a process. Its error is one of `clap`, which reports a request for help as an error,
+//! [`rvfleet::parse_args`] parses the arguments of a process. Its error is one of `clap`, which reports a request for help as an error,
 //! too. [`arguments`], [`command_builder`] and [`values`] build a command and read the values that `clap` found; the command line of
 //! `rvtest` is built on them.
 #![tactic(auto)]

@@ -43,17 +43,17 @@ pub enum Request<'a> {
 
 /// Parses the arguments, of which the first is the program's name, and returns their request. `None` is never returned for arguments that
 /// `clap` accepts. The error is one of `clap`; for a request for help, its kind is `DisplayHelp`.
-pub fn read_words<'a, T: AsStr>(alloc: Global, args: &'a [T]) -> Result<Option<Request<'a>>, Error>
+pub fn parse_args<'a, T: AsStr>(alloc: Global, args: &'a [T]) -> Result<Option<Request<'a>>, Error>
     // The result is the request that the arguments make.
     ensures value { IfOk result
         (λ parsed. option_map request parsed ≡ request_of (map T.text args.entry.now)) }
     // Each number is within the range of its argument.
     ensures within { IfOk result (λ parsed. IfSome parsed IsRequestInRange) }
     // Arguments that `clap` accepts make a request.
-    ensures asked { are_arguments_accepted (map T.text args.entry.now) ≡ true
+    ensures makes_request { are_arguments_accepted (map T.text args.entry.now) ≡ true
         → IfOk result (λ parsed. is_some parsed ≡ true) }
     // For arguments that `clap` accepts, the only possible error is that memory ran out.
-    ensures taken { IfErr result (λ error. are_arguments_accepted (map T.text args.entry.now) ≡ true
+    ensures accepted { IfErr result (λ error. are_arguments_accepted (map T.text args.entry.now) ≡ true
         → kind_of error ≡ ErrorKind.OutOfMemory) }
     // Any other error is one that the arguments have.
     ensures kinds { FailsBy (fault_of fleet_app (map T.text args.entry.now)) result }

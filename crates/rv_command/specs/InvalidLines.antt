@@ -84,12 +84,12 @@ expected_after line =
 -- the noun for the expected kind, as in `invalid report line`
 abbrev pub kind_noun : ResultKind → List ℕ
 kind_noun result_kind.Report = codes "report"
-kind_noun result_kind.Part = codes "part"
+kind_noun result_kind.Shard = codes "part"
 
 -- the expected kind with an article
 abbrev pub kind_text : ResultKind → List ℕ
 kind_text result_kind.Report = codes "a report"
-kind_text result_kind.Part = codes "the report of a shard"
+kind_text result_kind.Shard = codes "the report of a shard"
 
 -- the message that a line of the file at the path is invalid, which shows the line and what was expected instead
 abbrev pub line_message : ResultKind → List ℕ → List ℕ → ℕ → List ℕ

@@ -16,7 +16,7 @@ pub enum ResultKind {
     /// A report, of a whole list or of a shard.
     Report,
     /// The report of a shard, which has a last line `part`.
-    Part,
+    Shard,
 }
 
 /// Returns the message that the file at a path is not of the expected kind. If the file is a job list, the message says so. Otherwise it
@@ -91,7 +91,7 @@ fn kind_noun(kind: ResultKind) -> &'static str
 {
     match kind {
         ResultKind::Report => "report",
-        ResultKind::Part => "part",
+        ResultKind::Shard => "part",
     }
 }
 
@@ -101,7 +101,7 @@ fn kind_text(kind: ResultKind) -> &'static str
 {
     match kind {
         ResultKind::Report => "a report",
-        ResultKind::Part => "the report of a shard",
+        ResultKind::Shard => "the report of a shard",
     }
 }
 

@@ -16,7 +16,7 @@ pub use files::{file_error_stop, read_file, read_result_file};
 pub use invalid_line::{ResultKind, invalid_line_message};
 pub use list::{all_faults_text, list_faults_text, parse_list, read_list_text};
 pub use messages::{
-    path_message, path_number_message, put_end_message, write_message, write_results,
+    path_message, path_number_message, write_end_message, write_message, write_results,
     write_stop_message,
 };
 pub use requested_report::{

@@ -80,7 +80,7 @@ pub fn write_results<O: Sink>(out: &mut O, text: &[u8]) -> Result<(), Stop>
 
 /// Reports why a command stopped early, and returns the exit status. If a write failed because the reader of standard output has closed it,
 /// nothing is reported, and the status is 141, as if the signal `SIGPIPE` had ended the program.
-pub fn put_end_message<E: Sink>(errors: &mut E, stop: Stop, is_out_closed: bool) -> u8
+pub fn write_end_message<E: Sink>(errors: &mut E, stop: Stop, is_out_closed: bool) -> u8
     ensures status { result ≡ end_status is_out_closed stop }
     ensures reported { IsMessageWritten (E.accepted errors.old) (E.accepted errors.new)
         (E.failure_count errors.old) (E.failure_count errors.new) (end_message is_out_closed stop) }

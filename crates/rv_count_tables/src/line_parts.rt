@@ -26,9 +26,9 @@ pub(crate) fn index_of_byte(byte: u8, text: &[u8]) -> usize
     ensures index { result ≡ index_of_byte byte text.now }
     ensures within { result ≤ length text.now }
 {
-    for (place, b) in text.iter().enumerate() {
+    for (index, b) in text.iter().enumerate() {
         if *b == byte {
-            return place;
+            return index;
         }
     }
     text.len()

@@ -148,7 +148,7 @@ module _ (P One : ℕ → CountTable → Type 0) (total : ℕ) (none : P 0 no_co
       → IfErr (sum_or_error sum failed) (λ error. NextRefused P One total error)
   sum_refused sum None flow ran = tt
   sum_refused sum (Some error) flow ran =
-      let h = (heard_some _ total _ _ flow ran).hears in
+      let h = (heard_some _ total _ _ flow ran).received in
       let long = h.count_is in
       let few = h.few in
       last_refused h.results sum error (omega (arith, long, few)) (λ n d lt. h.each n d lt)

@@ -21,12 +21,12 @@ pub fn count_batch<R: Threads + Wait + Sync>(
     crew: &Crew<'_, R>,
     batch: &Batch<'_>,
 ) -> Result<CountTable, RunError>
-    ensures { IfOk result (λ table. IsTableOfJobsAt batch.now.plan.now batch.now.places.now table) }
+    ensures { IfOk result (λ table. IsTableOfJobsAt batch.now.plan.now batch.now.indices.now table) }
 {
-    let pieces = ranges_of_images(crew.alloc, batch.plan, batch.places, crew.workers)?;
+    let ranges = ranges_of_images(crew.alloc, batch.plan, batch.indices, crew.workers)?;
     let work = CountWork {
         batch,
-        pieces: pieces.as_slice(),
+        ranges: ranges.as_slice(),
     };
     let crew = Crew::new(crew.rt, crew.alloc, crew.workers, 1);
     let (sum, ran) = run_jobs::<Brand, JobsTable, R, CountWork<'_>, TableSum>(

@@ -52,8 +52,8 @@ impl HasTable for JobsTable {
 #[derive(Drop)]
 pub(crate) struct CountWork<'a> {
     pub(crate) batch: &'a Batch<'a>,
-    pub(crate) pieces: &'a [IndexRange],
-    pub(crate) ghost are: { AreIndexRanges batch.now.plan.now batch.now.places.now pieces.now },
+    pub(crate) ranges: &'a [IndexRange],
+    pub(crate) ghost are: { AreIndexRanges batch.now.plan.now batch.now.indices.now ranges.now },
 }
 
 impl Work<JobsTable> for CountWork<'_> {
@@ -61,16 +61,16 @@ impl Work<JobsTable> for CountWork<'_> {
     ghost use Rattle.rv_counting.specs.BatchRanges.{range_at, indices_in};
     ghost use Rattle.rv_counting.specs.JobTables.{IsTableOfRange};
 
-    ghost jobs = { λ s. length s.pieces.now };
+    ghost jobs = { λ s. length s.ranges.now };
 
     ghost is_output = { λ s number table. IsTableOfRange s.batch.now.plan.now
-        (indices_in s.batch.now.places.now (range_at s.pieces.now number)) table };
+        (indices_in s.batch.now.indices.now (range_at s.ranges.now number)) table };
 
     ghost is_worker_state = { λ _ _. Unit {0} };
 
     // Returns the number of pieces of the batch.
     fn jobs(&self) -> usize {
-        self.pieces.len()
+        self.ranges.len()
     }
 
     // Returns a worker's initial state, which has no spare memory yet.
@@ -79,14 +79,14 @@ impl Work<JobsTable> for CountWork<'_> {
     }
 
     // Returns the table of the piece with this number, counted from 0.
-    fn make(
+    fn compute(
         &self,
         alloc: Global,
         number: usize,
         worker_state: &mut WorkerState,
     ) -> Result<JobsTable, AllocError> {
-        let piece = self.pieces[number];
-        let indices = &self.batch.places[piece.begin..piece.end];
+        let range = self.ranges[number];
+        let indices = &self.batch.indices[range.begin..range.end];
         let table = table_of_jobs_at(alloc, self.batch.plan, indices, &mut worker_state.spare)?;
         Ok(JobsTable::new(table))
     }

@@ -30,23 +30,23 @@ pub fn ranges_of_images(
 ) -> Result<Vec<IndexRange>, AllocError>
     requires within { AreJobIndices plan.now indices.now }
     requires workers { 0 < workers }
-    ensures { IfOk result (λ pieces. AreIndexRanges plan.now indices.now pieces.items) }
+    ensures { IfOk result (λ ranges. AreIndexRanges plan.now indices.now ranges.items) }
 {
     let max_jobs = (indices.len() / (workers as usize * RANGES_PER_WORKER)).clamp(
         1,
         MAX_JOBS_IN_RANGE,
     );
-    let mut pieces = Vec::new(alloc);
+    let mut ranges = Vec::new(alloc);
     let mut from = 0;
     while from < indices.len() {
         let to = range_end(plan, indices, from, max_jobs);
-        pieces.push(IndexRange {
+        ranges.push(IndexRange {
             begin: from,
             end: to,
         })?;
         from = to;
     }
-    Ok(pieces)
+    Ok(ranges)
 }
 
 // Returns the end of the longest piece that begins at `from` and has at most `max_jobs` jobs.

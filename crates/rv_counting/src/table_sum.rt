@@ -77,11 +77,11 @@ impl TableSum {
 
     // Adds a table to the sum. Returns `Stop` if the two have no sum.
     fn add(&mut self, table: &CountTable) -> Flow
-        requires goes { is_some self.old.failed ≡ true → ⊥ }
+        requires no_failure { is_some self.old.failed ≡ true → ⊥ }
         requires valid { IsValidTable table.now }
         ensures added { (tables : List Counted) → AreTablesAdded self.old.sum self.old.failed tables
             → AreTablesAdded self.new.sum self.new.failed (tables ++ table.now ∷ []) }
-        ensures goes { result ≡ Continue → is_some self.new.failed ≡ true → ⊥ }
+        ensures no_failure { result ≡ Continue → is_some self.new.failed ≡ true → ⊥ }
         ensures stops { result ≡ Stop → is_some self.new.failed ≡ true }
     {
         match sum_of_tables(self.alloc, &self.sum, table) {

@@ -107,9 +107,9 @@ fn counts_text<R: Threads + Wait + Sync>(
 ) -> Result<String, Fail>
     requires { (0 < workers) × (workers ≤ 64) }
 {
-    let places = selected_indices_of(alloc, plan, choice)?;
+    let indices = selected_indices_of(alloc, plan, choice)?;
     let crew = Crew::new(rt, alloc, workers, 1);
-    let table = count_batch(&crew, &Batch::new(plan, places.as_slice()))?;
+    let table = count_batch(&crew, &Batch::new(plan, indices.as_slice()))?;
     let text = table_text(alloc, &table)?;
     let mut joined = String::new(alloc);
     for line in text.as_str().lines() {

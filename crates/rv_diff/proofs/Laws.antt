@@ -11,7 +11,7 @@ use Rattle.rv_diff.specs.declared.change.CompareMode.{CompareMode}
 use Rattle.rv_diff.specs.Change.{rows_agree, have_same_console, are_same_endings, agree_in_steps, are_same_verdicts}
 use Rattle.rv_diff.specs.RowsByName.{row_named}
 use Rattle.rv_diff.specs.Diff.{difference_lines, difference_counts, differing_count, gone_line, is_changed, changes_of_row}
-use Rattle.rv_diff.specs.Differences.{becomes, change_prefix, change_line, change_lines, console_change_text, ending_text}
+use Rattle.rv_diff.specs.Differences.{change_text, change_prefix, change_line, change_lines, console_change_text, ending_text}
 use Rattle.rv_diff.specs.Differences.{signature_change_text, steps_change_text, verdict_change_text}
 
 none_of_two : (m n : ℕ) → (m + n == 0) ≡ ((m == 0) && (n == 0))
@@ -31,7 +31,7 @@ pub agree_where_none : (compare : CompareMode) (old new : Row) →
 unfolding change_lines rows_agree
 agree_where_none compare old new =
     let ending = change_line new.name (are_same_endings compare old.ending new.ending)
-    (becomes (ending_text old.ending) (ending_text new.ending)) in
+    (change_text (ending_text old.ending) (ending_text new.ending)) in
     let counts = change_line new.name (agree_in_steps compare old new) (steps_change_text compare old.steps new.steps) in
     let console = change_line new.name (have_same_console old new) (console_change_text old.console new.console) in
     let signature = change_line new.name (are_same_signatures old.signature new.signature)
@@ -43,7 +43,7 @@ agree_where_none compare old new =
     ∙ ap (λ b. b && (length signature == 0)) (no_text (ending ++ counts) console
     ∙ ap (λ b. b && (length console == 0)) (no_text ending counts)))
     ∙ (λ i. change_due new.name (are_same_endings compare old.ending new.ending)
-    (becomes (ending_text old.ending) (ending_text new.ending)) i
+    (change_text (ending_text old.ending) (ending_text new.ending)) i
     && change_due new.name (agree_in_steps compare old new) (steps_change_text compare old.steps new.steps) i
     && change_due new.name (have_same_console old new) (console_change_text old.console new.console) i
     && change_due new.name (are_same_signatures old.signature new.signature)

@@ -27,8 +27,8 @@ ending_text ending.Budget = codes "budget"
 ending_text (ending.Refused refusal) = codes "refused " ++ refusal_name refusal
 
 -- the words `OLD -> NEW`
-abbrev pub becomes : List ℕ → List ℕ → List ℕ
-becomes old new = old ++ codes " -> " ++ new
+abbrev pub change_text : List ℕ → List ℕ → List ℕ
+change_text old new = old ++ codes " -> " ++ new
 
 -- a value in double quotes: printable, and cut off if it is long
 abbrev pub value_in_quotes : List ℕ → List ℕ
@@ -40,12 +40,12 @@ first_differing_index old new = position (λ pair. not (pair.0 == pair.1)) (zip 
 
 -- the text `COUNT -> COUNT` for the lengths of two lists, each with the noun `noun`
 abbrev pub counts_text : List ℕ → List ℕ → List ℕ → List ℕ
-counts_text noun old new = becomes (count_text (length old) noun) (count_text (length new) noun)
+counts_text noun old new = change_text (count_text (length old) noun) (count_text (length new) noun)
 
 -- how two consoles differ: the bytes from the first difference, at the given index, or the lengths if there is no such index
 abbrev pub byte_change_text : Option ℕ → List ℕ → List ℕ → List ℕ
 byte_change_text (Some index) old new = codes "byte " ++ decimal index ++ codes ": "
-    ++ becomes (value_in_quotes (drop index old)) (value_in_quotes (drop index new))
+    ++ change_text (value_in_quotes (drop index old)) (value_in_quotes (drop index new))
 byte_change_text None old new = counts_text (codes "byte") old new
 
 -- the text for a console that changed from `old` to `new`
@@ -55,7 +55,7 @@ console_change_text old new = codes "console " ++ byte_change_text (first_differ
 -- how the words of two signatures differ: the first word that differs, at the given index, or the lengths if there is no such index
 abbrev pub word_change_text : Option ℕ → List ℕ → List ℕ → List ℕ
 word_change_text (Some index) old new = codes "word " ++ decimal index ++ codes ": "
-    ++ becomes (word_digits (slice_index old index)) (word_digits (slice_index new index))
+    ++ change_text (word_digits (slice_index old index)) (word_digits (slice_index new index))
 word_change_text None old new = counts_text (codes "word") old new
 
 -- the number of words of a signature, or `none` if there is no signature
@@ -66,7 +66,7 @@ size_text (Some words) = count_text (length words) (codes "word")
 -- how two signatures differ: the first word that differs, or the sizes if one is missing or a prefix of the other
 abbrev pub signature_difference_text : Option (List ℕ) → Option (List ℕ) → List ℕ
 signature_difference_text (Some old) (Some new) = word_change_text (first_differing_index old new) old new
-signature_difference_text old new = becomes (size_text old) (size_text new)
+signature_difference_text old new = change_text (size_text old) (size_text new)
 
 -- the text for a signature that changed from `old` to `new`
 unfoldable pub signature_change_text : Option (List ℕ) → Option (List ℕ) → List ℕ
@@ -82,11 +82,11 @@ percent_text (Slower percent) old new =
 -- the text for steps that changed from `old` to `new`
 abbrev pub steps_change_text : CompareMode → ℕ → ℕ → List ℕ
 steps_change_text mode old new =
-    codes "steps " ++ becomes (decimal old) (decimal new) ++ percent_text mode old new
+    codes "steps " ++ change_text (decimal old) (decimal new) ++ percent_text mode old new
 
 -- the text for a verdict that changed from `old` to `new`
 abbrev pub verdict_change_text : Verdict → Verdict → List ℕ
-verdict_change_text old new = codes "verdict " ++ becomes (verdict_name old) (verdict_name new)
+verdict_change_text old new = codes "verdict " ++ change_text (verdict_name old) (verdict_name new)
 
 -- ---- the lines
 
@@ -102,7 +102,7 @@ change_line name is_same words = if is_same then [] else line (change_prefix nam
 unfoldable pub change_lines : CompareMode → Row → Row → List ℕ
 change_lines mode old new =
     change_line new.name (are_same_endings mode old.ending new.ending)
-    (becomes (ending_text old.ending) (ending_text new.ending))
+    (change_text (ending_text old.ending) (ending_text new.ending))
     ++ change_line new.name (agree_in_steps mode old new)
     (steps_change_text mode old.steps new.steps)
     ++ change_line new.name (have_same_console old new) (console_change_text old.console new.console)

@@ -2,7 +2,7 @@
 
 ghost use Rattle.std.specs.Prelude.{◌≡◌, ◌++◌, OnOk};
 ghost use Rattle.rv_diff.specs.Change.{have_same_console, are_same_endings, agree_in_steps, are_same_verdicts};
-ghost use Rattle.rv_diff.specs.Differences.{becomes, change_line, change_lines, console_change_text};
+ghost use Rattle.rv_diff.specs.Differences.{change_text, change_line, change_lines, console_change_text};
 ghost use Rattle.rv_diff.specs.Differences.{ending_text, first_differing_index, percent_text, steps_change_text, verdict_change_text};
 
 use crate::change::{
@@ -39,7 +39,7 @@ fn push_ending_change(
 ) -> Result<(), AllocError>
     ensures { OnOk result (text.new.items ≡ text.old.items
         ++ change_line new_row.now.name (are_same_endings mode old_row.now.ending new_row.now.ending)
-        (becomes (ending_text old_row.now.ending) (ending_text new_row.now.ending))) }
+        (change_text (ending_text old_row.now.ending) (ending_text new_row.now.ending))) }
 {
     if are_same_endings(mode, old_row.ending, new_row.ending) {
         return Ok(());

@@ -23,7 +23,7 @@ module _ {H : Type 0} (is_result : ℕ → H → Type 0) (jobs : ℕ) where
   }
 
   pub heard_some : (has_received : List H → Type 0) (n : ℕ) → HasReceived is_result jobs has_received n → HasReceivedSome is_result jobs has_received
-  heard_some has_received n received = record { count = n; hears = received }
+  heard_some has_received n received = record { count = n; received = received }
 
   -- the result of the next job
   pub heard_more : (had has : List H → Type 0) (n : ℕ) (made : H) → HasReceived is_result jobs had n → n < jobs

@@ -26,7 +26,7 @@ pub record HasReceived {H : Type 0} (is_result : ℕ → H → Type 0) (jobs : �
 -- a listener has received the results of the first jobs, for some number of jobs, each once and in order
 pub record HasReceivedSome {H : Type 0} (is_result : ℕ → H → Type 0) (jobs : ℕ) (has_received : List H → Type 0) : Type 0 where
   pub count : ℕ
-  pub hears : HasReceived is_result jobs has_received count
+  pub received : HasReceived is_result jobs has_received count
 
 -- how many results the listener has received after a run: all of them; or, if it stopped the run, the results up to the job at which it
 -- did; or, after an error, the results of some number of first jobs

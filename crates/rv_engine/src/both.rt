@@ -58,7 +58,7 @@ impl<H, A: Observer<H> + Drop, B: Observer<H> + Drop> Observer<H> for Both<A, B>
 
 // Returns `Stop` if one of the two is `Stop`, and otherwise `Continue`.
 fn either_stop(first: Flow, second: Flow) -> Flow
-    ensures goes { result ≡ Continue → (first ≡ Continue) × (second ≡ Continue) }
+    ensures running { result ≡ Continue → (first ≡ Continue) × (second ≡ Continue) }
     ensures stops { result ≡ Stop → (first ≡ Stop) ⊎ (second ≡ Stop) }
 {
     match first {

@@ -29,16 +29,16 @@ pub(crate) fn compute_chunk<H: Drop, W: Work<H>>(
     requires group { (0 < group) × (group ≤ max_group) }
     requires piece { chunk < chunk_count (W.jobs work.now) group }
     requires worker_state { W.is_worker_state work.now worker_state.old }
-    ensures made { IfOk result (λ made. IsChunk (W.is_output work.now) (W.jobs work.now) group chunk made.items) }
+    ensures output { IfOk result (λ outputs. IsChunk (W.is_output work.now) (W.jobs work.now) group chunk outputs.items) }
     ensures worker_state { OnOk result (W.is_worker_state work.now worker_state.new) }
 {
     let jobs = work.jobs();
     let group = group as usize;
     let start = chunk as usize * group;
     let end = start + group.min(jobs - start);
-    let mut made = Vec::with_capacity(alloc, end - start)?;
+    let mut outputs = Vec::with_capacity(alloc, end - start)?;
     for number in start..end {
-        made.push(work.make(alloc, number, worker_state)?)?;
+        outputs.push(work.compute(alloc, number, worker_state)?)?;
     }
-    Ok(made)
+    Ok(outputs)
 }

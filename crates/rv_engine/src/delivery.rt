@@ -60,7 +60,7 @@ impl<J: RunSpec<H>, H: Drop, L: Listener<H> + Drop> DeliveryState<J, H, L> {
     /// Returns the state of a run before its first result. `pending` has an empty entry for each chunk.
     pub(crate) fn new(listener: L, pending: Vec<Option<Vec<H>>>) -> DeliveryState<J, H, L>
         requires received { L.has_received listener [] }
-        requires goes { L.stops listener → ⊥ }
+        requires running { L.stops listener → ⊥ }
         requires none { (k : ℕ) → slice_index_or pending.items k None ≡ None }
     {
         DeliveryState {
@@ -214,8 +214,8 @@ pub(crate) fn deliver_chunk<J: RunSpec<H>, H: Drop, L: Listener<H>>(
     requires received { HasReceivedUpTo J.is_result J.jobs J.group (L.has_received listener.old) (L.stops listener.old) chunk }
     ensures { IsDelivered J.is_result J.jobs J.group (L.has_received listener.new) (L.stops listener.new) (chunk + 1) result }
 {
-    for made in results {
-        if let Flow::Stop = listener.receive(made) {
+    for output in results {
+        if let Flow::Stop = listener.receive(output) {
             return Flow::Stop;
         }
     }

@@ -57,7 +57,7 @@ pub fn run_jobs<
     requires jobs { J.jobs ≡ W.jobs work.now }
     requires group { J.group ≡ crew.now.group }
     requires received { L.has_received listener [] }
-    requires goes { L.stops listener → ⊥ }
+    requires running { L.stops listener → ⊥ }
     ensures { IsRunDelivered J.is_result J.jobs (L.has_received result.0) (L.stops result.0) result.1 }
 {
     let pieces = chunk_count(work.jobs(), crew.group);
@@ -65,15 +65,15 @@ pub fn run_jobs<
         Ok(pending) => pending,
         Err(error) => return (listener, Err(RunError::from(error))),
     };
-    let shop = WorkerContext {
+    let context = WorkerContext {
         rt: crew.rt,
         alloc: crew.alloc,
         work,
         group: crew.group,
         delivery: Mutex::new(DeliveryState::<J, H, L>::new(listener, pending)),
     };
-    let ran = run_workers(crew, &shop, pieces);
-    let (listener, rest) = shop.delivery.into_inner().into_parts();
+    let ran = run_workers(crew, &context, pieces);
+    let (listener, rest) = context.delivery.into_inner().into_parts();
     match ran {
         Ok(()) => deliver_remaining::<J, H, R, W, L>(crew, work, listener, rest),
         Err(error) => (listener, Err(error)),

@@ -20,16 +20,16 @@ pub trait Listener<H> {
 
     /// Receives the result of the next job, and returns whether the run continues. It is not called again after it returned `Stop`.
     fn receive(&mut self, output: H) -> Flow
-        requires goes { stops self.old → ⊥ }
+        requires running { stops self.old → ⊥ }
         ensures received { (results : List H) → has_received self.old results → has_received self.new (results ++ output ∷ []) }
-        ensures goes { result ≡ Continue → stops self.new → ⊥ }
+        ensures running { result ≡ Continue → stops self.new → ⊥ }
         ensures stops { result ≡ Stop → stops self.new };
 
     /// Flushes the buffered output, since the next result is not ready yet. Returns whether the run continues.
     fn pause(&mut self) -> Flow
-        requires goes { stops self.old → ⊥ }
+        requires running { stops self.old → ⊥ }
         ensures received { (results : List H) → has_received self.old results → has_received self.new results }
-        ensures goes { result ≡ Continue → stops self.new → ⊥ }
+        ensures running { result ≡ Continue → stops self.new → ⊥ }
         ensures stops { result ≡ Stop → stops self.new };
 }
 
@@ -46,15 +46,15 @@ pub trait Observer<H> {
 
     /// Sees the result of the next job, and returns whether the run continues. It is not called again after it returned `Stop`.
     fn see(&mut self, output: &H) -> Flow
-        requires goes { stops self.old → ⊥ }
+        requires running { stops self.old → ⊥ }
         ensures seen { (results : List H) → has_seen self.old results → has_seen self.new (results ++ output.now ∷ []) }
-        ensures goes { result ≡ Continue → stops self.new → ⊥ }
+        ensures running { result ≡ Continue → stops self.new → ⊥ }
         ensures stops { result ≡ Stop → stops self.new };
 
     /// Flushes the buffered output, since the next result is not ready yet. Returns whether the run continues.
     fn pause(&mut self) -> Flow
-        requires goes { stops self.old → ⊥ }
+        requires running { stops self.old → ⊥ }
         ensures seen { (results : List H) → has_seen self.old results → has_seen self.new results }
-        ensures goes { result ≡ Continue → stops self.new → ⊥ }
+        ensures running { result ≡ Continue → stops self.new → ⊥ }
         ensures stops { result ≡ Stop → stops self.new };
 }

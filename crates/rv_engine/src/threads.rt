@@ -23,7 +23,7 @@ pub(crate) trait Worker: Sync {
     /// Draws chunks and computes them until no chunk is left or the run ends.
     fn compute_chunks(&self, claims: &Claims, pass: Pass) -> Result<(), AllocError>
         requires claims { draws self.now claims.now }
-        requires pass { pass.draw ≡ claims.now };
+        requires pass { pass.counter ≡ claims.now };
 
     /// Makes the other workers stop after their current chunks.
     fn abort(&self);
@@ -47,13 +47,13 @@ pub(crate) fn run_workers<R: Threads + Wait, S: Worker>(
         thread::scope_env(),
         rt,
         |scope| -> Result<(), RunError>
-            requires { S.draws worker.now claims.now × All (λ pass. pass.draw ≡ claims.now) passes.items }
+            requires { S.draws worker.now claims.now × All (λ pass. pass.counter ≡ claims.now) passes.items }
         {
             let mut handles = Vec::with_capacity(alloc, passes.len())?;
             for pass in passes {
                 let Ok(handle) = scope.spawn(
                     move || -> Result<(), AllocError>
-                        requires { S.draws worker.now claims.now × (pass.draw ≡ claims.now) }
+                        requires { S.draws worker.now claims.now × (pass.counter ≡ claims.now) }
                     { worker.compute_chunks(claims, pass) },
                 ) else {
                     // The others need not continue.
@@ -83,8 +83,8 @@ fn split_passes(
     first: Pass,
     count: u64,
 ) -> Result<Vec<Pass>, AllocError>
-    requires { first.draw ≡ claims.now }
-    ensures { IfOk result (λ passes. All (λ pass. pass.draw ≡ claims.now) passes.items) }
+    requires { first.counter ≡ claims.now }
+    ensures { IfOk result (λ passes. All (λ pass. pass.counter ≡ claims.now) passes.items) }
 {
     let mut passes = Vec::new(alloc);
     if count == 0 {

@@ -28,7 +28,7 @@ pub trait Work<H> {
         ensures { is_worker_state self.now result };
 
     /// Computes the result of the job with this number, counted from 0.
-    fn make(
+    fn compute(
         &self,
         alloc: Global,
         number: usize,
@@ -36,6 +36,6 @@ pub trait Work<H> {
     ) -> Result<H, AllocError>
         requires number { number < jobs self.now }
         requires worker_state { is_worker_state self.now worker_state.old }
-        ensures made { IfOk result (is_output self.now number) }
+        ensures output { IfOk result (is_output self.now number) }
         ensures worker_state { OnOk result (is_worker_state self.now worker_state.new) };
 }

@@ -43,7 +43,7 @@ impl<
         let mut pass = pass;
         let mut worker_state = self.work.new_worker_state(self.alloc);
         while let Some(piece) = claims.take(&mut pass) {
-            let made = compute_chunk::<H, W>(
+            let outputs = compute_chunk::<H, W>(
                 self.alloc,
                 self.work,
                 self.group,
@@ -51,7 +51,7 @@ impl<
                 &mut worker_state,
             );
             let mut delivery = self.delivery.lock(self.rt);
-            match made {
+            match outputs {
                 Ok(results) => if let Flow::Stop = delivery.receive_chunk(piece, results) {
                     return Ok(());
                 },

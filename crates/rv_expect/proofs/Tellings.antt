@@ -30,7 +30,7 @@ use Rattle.rv_expect.specs.Difference.{console_difference, difference_of_runs, d
 use Rattle.rv_expect.specs.Difference.{same_as_difference, signatures_difference}
 use Rattle.rv_expect.specs.Reference.{IsWord, difference_from_reference, read_reference}
 use Rattle.rv_expect.specs.Reference.{signature_difference, word_difference, signature_words_or_empty}
-use Rattle.rv_expect.specs.UnmetExpectations.{HasRequiredVerdict, ReportsUnmetExpectations, is_console, is_end, is_exit, is_nothing}
+use Rattle.rv_expect.specs.UnmetExpectations.{HasRequiredVerdict, ReportsUnmetExpectations, is_console, is_end, is_exit, is_default_exit}
 use Rattle.rv_expect.specs.UnmetExpectations.{is_same, is_signature, named_outcome, outcome_in_row, passes}
 use Rattle.rv_expect.specs.Unmet.{unmet_expectations_of, unmet_of_expecting_job}
 use Rattle.rv_expect.proofs.Differences.{is_some-first_difference}
@@ -247,10 +247,10 @@ asked sides runs asks fit =
           (none_if is_same Exit exit refl) (none_if is_same End end refl)
           (none_map is_same Console c (λ x. refl)) (none_map is_same Signature g (λ x. refl))
           (any_map is_same Same s (λ x. refl)) ∙ same_told sides.job.same_as sides.other sides.row;
-      nothing = parts_of is_nothing sides false false false false false
-          (none_if is_nothing Exit exit refl) (none_if is_nothing End end refl)
-          (none_map is_nothing Console c (λ x. refl)) (none_map is_nothing Signature g (λ x. refl))
-          (none_map is_nothing Same s (λ x. refl))
+      default_exit = parts_of is_default_exit sides false false false false false
+          (none_if is_default_exit Exit exit refl) (none_if is_default_exit End end refl)
+          (none_map is_default_exit Console c (λ x. refl)) (none_map is_default_exit Signature g (λ x. refl))
+          (none_map is_default_exit Same s (λ x. refl))
           ∙ sym (ap (λ (t : Bool). not t && not (exits_with 0 sides.row.ending)) asks);
     }
 
@@ -303,7 +303,7 @@ unasked sides none =
           ∙ sym (ap not (no_reference sides.job.expect_signature sides.reference outcome s.0));
       same = none_if is_same DefaultExit zero refl
           ∙ sym (ap not (no_same sides.job.same_as (named_outcome sides.other) outcome s.1));
-      nothing = any_if is_nothing DefaultExit zero refl
+      default_exit = any_if is_default_exit DefaultExit zero refl
           ∙ sym (ap (λ (t : Bool). not t && not (exits_with 0 sides.row.ending)) none);
     }
 

@@ -47,7 +47,7 @@ has_job_named jobs name = list_any (λ job. bytes_eq job name) jobs
 -- valid
 abbrev pub fault_kind : List (List ℕ) → List KnownJob → List ℕ → Option KnownFaultKind
 fault_kind jobs known_jobs name = if is_name name
-    then (if is_known known_jobs name then Some kind.Twice
+    then (if is_known known_jobs name then Some kind.Duplicate
     else if has_job_named jobs name then None else Some kind.UnknownJob)
     else Some kind.InvalidName
 

@@ -43,9 +43,9 @@ is_same (Same difference) = true
 is_same _ = false
 
 -- whether an unmet expectation is the default one: exit code 0
-abbrev pub is_nothing : UnmetExpectation → Bool
-is_nothing DefaultExit = true
-is_nothing _ = false
+abbrev pub is_default_exit : UnmetExpectation → Bool
+is_default_exit DefaultExit = true
+is_default_exit _ = false
 
 -- ---- which expectations are unmet
 
@@ -72,7 +72,7 @@ pub record ReportsUnmetExpectations (reported : List UnmetExpectation) (job : Jo
   pub signature : list_any is_signature reported
       ≡ not (has_expected_signature job.expect_signature reference outcome)
   pub same : list_any is_same reported ≡ not (matches_same_as job.same_as other outcome)
-  pub nothing : list_any is_nothing reported
+  pub default_exit : list_any is_default_exit reported
       ≡ (not (has_expectations job) && not (exits_with 0 outcome.ending))
 
 -- whether a job passes: its verdict is `pass`, or it has no expectations and ended with exit code 0

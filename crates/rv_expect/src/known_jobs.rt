@@ -48,7 +48,7 @@ pub enum KnownFaultKind {
     /// The part before the reason is not a valid job name.
     InvalidName,
     /// An earlier line has the same name.
-    Twice,
+    Duplicate,
     /// The job list has no job with this name.
     UnknownJob,
 }

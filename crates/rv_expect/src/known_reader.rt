@@ -80,7 +80,7 @@ fn fault_kind(jobs: &[&str], known_jobs: &[KnownJob], name: &[u8]) -> Option<Kno
     if !is_name(name) {
         Some(KnownFaultKind::InvalidName)
     } else if is_known(known_jobs, name) {
-        Some(KnownFaultKind::Twice)
+        Some(KnownFaultKind::Duplicate)
     } else if !has_job_named(jobs, name) {
         Some(KnownFaultKind::UnknownJob)
     } else {

@@ -32,7 +32,7 @@ pub fn references_are_lines_of_words()
 
 /// Proves that an expectation is reported as unmet if and only if it does not hold by the definitions of the verdict, for each row whose
 /// job ran and whose signature has 32-bit words.
-pub fn unmet_is_what_does_not_hold()
+pub fn unmet_iff_not_held()
     ensures { (comparison : ComparisonView)
         → IsTrue (did_run comparison.row.ending)
         → AllByRecursion IsWord (signature_words_or_empty comparison.row.signature)
@@ -43,7 +43,7 @@ pub fn unmet_is_what_does_not_hold()
 /// Proves that no expectation is reported as unmet if and only if the job passes, for each row whose job ran, whose signature has 32-bit
 /// words, and whose verdict is the one that its outcome requires. A job passes if its verdict is `pass`, or if it has no expectations and
 /// ended with exit code 0.
-pub fn nothing_is_unmet_where_a_job_passes()
+pub fn nothing_is_unmet_if_a_job_passes()
     ensures { (comparison : ComparisonView)
         → IsTrue (did_run comparison.row.ending)
         → AllByRecursion IsWord (signature_words_or_empty comparison.row.signature)

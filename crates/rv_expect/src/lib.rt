@@ -2,8 +2,8 @@
 //!
 //! [`unmet_expectations`] returns them for a [`Comparison`]: the bytes of a job's files, and the row of the job that its `same_as` names,
 //! which [`row_of_same_as_job`] returns. Their order is exit, end, console, signature, `same_as`. An expectation is reported if and only if
-//! it does not hold by the definitions of the verdict ([`unmet_is_what_does_not_hold`], [`unmet_of_a_plan_is_what_does_not_hold`]), and
-//! none is reported if and only if the job passes ([`nothing_is_unmet_where_a_job_passes`]). A reported difference is the first one
+//! it does not hold by the definitions of the verdict ([`unmet_iff_not_held`], [`unmet_of_a_plan_is_what_does_not_hold`]), and
+//! none is reported if and only if the job passes ([`nothing_is_unmet_if_a_job_passes`]). A reported difference is the first one
 //! ([`differences_are_first`]), and the text of an expected signature is read as words if and only if it consists of the lines of these
 //! words ([`references_are_lines_of_words`]). A job that [`expects_two_ends`] never passes ([`two_ends_fail`]).
 //!
@@ -37,8 +37,8 @@ pub use judgement::{Judge, Judgement};
 pub use known_jobs::{KnownFault, KnownFaultKind, KnownJob, KnownJobs};
 pub use known_reader::read_known_jobs;
 pub use law::{
-    differences_are_first, nothing_is_unmet_where_a_job_passes, references_are_lines_of_words,
-    unmet_is_what_does_not_hold, unmet_of_a_plan_is_what_does_not_hold,
+    differences_are_first, nothing_is_unmet_if_a_job_passes, references_are_lines_of_words,
+    unmet_iff_not_held, unmet_of_a_plan_is_what_does_not_hold,
 };
 pub use met_expectations::{Expectation, is_expectation_met};
 pub use reference::signature_words_or_empty;

@@ -18,11 +18,11 @@ short most (Some all) bytes within same =
 pub all_read : (most : ℕ) (a b c : Option (List ℕ)) (old new : List ℕ) (count : ℕ) → Consumes a b old
     → AppendsRead most b c old new count → count ≡ 0 → IfSome a (λ all. new ≡ take most all)
 all_read most a b c old new count before grows none =
-    let within : length new ≤ most = rw grows.grown
+    let within : length new ≤ most = rw grows.appended
     (omega (arith, length-append old grows.more, grows.counted, grows.room)) in
     short most a new within
-    (Consumes-all a c (old ++ grows.more) [] new (Consumes-trans a b c old grows.more before grows.taken)
-    (grows.ended none) grows.grown)
+    (Consumes-all a c (old ++ grows.more) [] new (Consumes-trans a b c old grows.more before grows.consumed)
+    (grows.ended none) grows.appended)
 
 -- as many bytes as are read at most are the input's first
 pub full_read : (most : ℕ) (a b : Option (List ℕ)) (bytes : List ℕ) → Consumes a b bytes → length bytes ≡ most

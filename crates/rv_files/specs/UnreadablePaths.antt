@@ -7,14 +7,14 @@ use Rattle.rv_files.specs.declared.file_store.ReadWholeError.{ReadWholeError}
 use Rattle.rv_files.specs.declared.file_store.ReadWholeError.TheVariants as whole
 use Rattle.rv_files.specs.declared.recording_store.UnreadablePath.{UnreadablePath}
 
--- the path joined to the directory `folder` if the path is relative and there is a directory; otherwise the path itself
+-- the path joined to the directory `directory` if the path is relative and there is a directory; otherwise the path itself
 abbrev pub resolved_path : Option (List ℕ) → List ℕ → List ℕ
-resolved_path (Some folder) path = path_join folder path
+resolved_path (Some directory) path = path_join directory path
 resolved_path None path = path
 
--- the contents of the files for paths relative to the directory `folder`, if the contents are known
-abbrev pub contents_below : Option (List ℕ) → Option FileContents → Option FileContents
-contents_below folder contents = option_map (λ files path. files (resolved_path folder path)) contents
+-- the contents of the files for paths relative to the directory `directory`, if the contents are known
+abbrev pub contents_relative_to : Option (List ℕ) → Option FileContents → Option FileContents
+contents_relative_to directory contents = option_map (λ files path. files (resolved_path directory path)) contents
 
 -- if the system failed to read a path, and the contents of files are known, then no file has this path
 abbrev pub HasNoContentsIfUnreadable : Option FileContents → List ℕ → ReadWholeError → Type 0

@@ -40,7 +40,7 @@ pub(crate) fn canonical_path<R: Files>(
         return path.to_path_buf(alloc);
     };
     match files.canonicalize(alloc, directory_of(path.as_str()).as_str()) {
-        Ok(folder) => folder.join(alloc, name),
+        Ok(directory) => directory.join(alloc, name),
         Err(error) if error.kind() == ErrorKind::OutOfMemory => Err(AllocError),
         Err(_) => path.to_path_buf(alloc),
     }

@@ -143,7 +143,7 @@ impl MemoryOutputs {
 }
 
 impl Outputs for MemoryOutputs {
-    type Place = Text;
+    type Pending = Text;
 
     type File = MemorySink;
 
@@ -189,7 +189,7 @@ impl Outputs for MemoryOutputs {
     }
 
     // Places a file at its path, which uses up one step.
-    fn place(&mut self, path: Text, bytes: Vec<u8>) -> Result<(), FileError> {
+    fn commit(&mut self, path: Text, bytes: Vec<u8>) -> Result<(), FileError> {
         self.take_step()?;
         match self.committed.push(MemoryFile { path, bytes }) {
             Ok(()) => Ok(()),
@@ -198,7 +198,7 @@ impl Outputs for MemoryOutputs {
     }
 
     // Does nothing: a file that was not placed leaves no trace.
-    fn abandon(&mut self, _place: Text) {}
+    fn abandon(&mut self, _pending: Text) {}
 }
 
 // Appends a text to a list of texts.

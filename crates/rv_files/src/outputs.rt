@@ -11,7 +11,7 @@ use std::alloc::{AllocError, Global};
 /// A destination for files, each of which is written, synced to disk, and then placed at its path.
 pub trait Outputs {
     /// The destination of a file that is not yet placed.
-    type Place: Drop;
+    type Pending: Drop;
 
     /// A file that accepts bytes.
     type File: Sink + LastError + Drop;
@@ -23,7 +23,7 @@ pub trait Outputs {
     ghost committed: { Self → Option (List CommittedFile) };
 
     // The path of a destination.
-    ghost pending_path: { Self.Place → List ℕ };
+    ghost pending_path: { Self.Pending → List ℕ };
 
     // The bytes of a synced file, if known.
     ghost synced_bytes: { Self.Synced → Option (List ℕ) };
@@ -45,13 +45,17 @@ pub trait Outputs {
 
     /// Creates an empty file that is to be placed at a path, and returns its destination and the file. Any file at the path remains. The
     /// error is `SameFile` if a file that is not yet placed has the same final or temporary path.
-    fn create(&mut self, alloc: Global, path: &str) -> Result<(Self::Place, Self::File), FileError>
+    fn create(
+        &mut self,
+        alloc: Global,
+        path: &str,
+    ) -> Result<(Self::Pending, Self::File), FileError>
         ensures same { committed self.new ≡ committed self.old }
         ensures path { IfOk result (λ created. pending_path created.0 ≡ path.now) }
         ensures empty { IfOk result (λ created. IfSome (Self.File.accepted created.1) (λ bytes. bytes ≡ [])) }
 
         // If the placed files are known, the bytes that this file accepts are known, too.
-        ensures told { IfOk result (λ created. IfSome (committed self.old) (λ _. Self.File.accepted created.1 ≡ Some [])) }
+        ensures known_bytes { IfOk result (λ created. IfSome (committed self.old) (λ _. Self.File.accepted created.1 ≡ Some [])) }
         ensures no_failures { IfOk result (λ created. Self.File.failure_count created.1 ≡ 0) };
 
     /// Syncs a file's bytes to disk.
@@ -63,13 +67,13 @@ pub trait Outputs {
         ensures another_error { IfErr result (λ error. error ≢ FileError.SameFile) };
 
     /// Places a synced file at its path, where it replaces any other file. After an error, the placed files are unchanged.
-    fn place(&mut self, place: Self::Place, file: Self::Synced) -> Result<(), FileError>
+    fn commit(&mut self, pending: Self::Pending, file: Self::Synced) -> Result<(), FileError>
         ensures committed { OnOk result
-            (IsCommittedFileAdded (committed self.old) (committed self.new) (pending_path place) (synced_bytes file)) }
+            (IsCommittedFileAdded (committed self.old) (committed self.new) (pending_path pending) (synced_bytes file)) }
         ensures same { OnErr result (committed self.new ≡ committed self.old) }
         ensures another_error { IfErr result (λ error. error ≢ FileError.SameFile) };
 
     /// Removes a file that was not placed. Any file at its path remains.
-    fn abandon(&mut self, place: Self::Place)
+    fn abandon(&mut self, pending: Self::Pending)
         ensures { committed self.new ≡ committed self.old };
 }

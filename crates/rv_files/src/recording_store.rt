@@ -4,7 +4,7 @@ ghost use Rattle.std.specs.Prelude.{◌≡◌, ◌≤◌, ◌<◌, ◌++◌, ◌
 ghost use Rattle.std.specs.Prelude.{IfErr, IfOk, IfSome, IsSomeAnd, MatchResult, OnErr, OnOk};
 ghost use Rattle.std.specs.Option.{option_copied};
 ghost use Rattle.rv_base.specs.Limits.{max_file_size};
-ghost use Rattle.rv_files.specs.UnreadablePaths.{HasNoContentsIfUnreadable, contents_below, unreadable_path, unreadable_paths_after};
+ghost use Rattle.rv_files.specs.UnreadablePaths.{HasNoContentsIfUnreadable, contents_relative_to, unreadable_path, unreadable_paths_after};
 
 use crate::file_store::ReadWholeError;
 use crate::inputs::{Inputs, read_whole_up_to};
@@ -28,20 +28,20 @@ pub struct UnreadablePath {
 #[derive(Drop)]
 pub struct RecordingStore<'a, D: Inputs> {
     inputs: &'a D,
-    folder: Option<&'a str>,
+    directory: Option<&'a str>,
     unreadable: Vec<UnreadablePath>,
 }
 
 impl<'a, D: Inputs> RecordingStore<'a, D> {
-    /// Returns a store that reads these inputs. Relative paths are resolved against `folder`, if it is given. Does not allocate.
-    pub fn new(inputs: &'a D, alloc: Global, folder: Option<&'a str>) -> RecordingStore<'a, D>
+    /// Returns a store that reads these inputs. Relative paths are resolved against `directory`, if it is given. Does not allocate.
+    pub fn new(inputs: &'a D, alloc: Global, directory: Option<&'a str>) -> RecordingStore<'a, D>
         ensures inputs { result.inputs ≡ inputs.entry }
-        ensures folder { result.folder ≡ folder.entry }
+        ensures directory { result.directory ≡ directory.entry }
         ensures nothing { result.unreadable.items ≡ [] }
     {
         RecordingStore {
             inputs,
-            folder,
+            directory,
             unreadable: Vec::new(alloc),
         }
     }
@@ -62,16 +62,16 @@ impl<'a, D: Inputs> RecordingStore<'a, D> {
 
     // Reads the file at a path, which is relative to the store's directory, and records the path if it is unreadable.
     fn read_and_record(&mut self, alloc: Global, path: &str) -> Result<Vec<u8>, ReadWholeError>
-        ensures inputs_unchanged { (self.new.inputs ≡ self.old.inputs) × (self.new.folder ≡ self.old.folder) }
+        ensures inputs_unchanged { (self.new.inputs ≡ self.old.inputs) × (self.new.directory ≡ self.old.directory) }
         ensures contents { IfOk result (λ bytes.
-            IfSome (contents_below (option_copied self.old.folder) (D.contents self.old.inputs.now))
+            IfSome (contents_relative_to (option_copied self.old.directory) (D.contents self.old.inputs.now))
             (λ files. files path.now ≡ Some bytes.items)) }
         ensures within { IfOk result (λ bytes. length bytes.items ≤ max_file_size) }
         ensures too_long { IfErr result (λ error. error ≡ ReadWholeError.TooLong →
-            IfSome (contents_below (option_copied self.old.folder) (D.contents self.old.inputs.now))
+            IfSome (contents_relative_to (option_copied self.old.directory) (D.contents self.old.inputs.now))
             (λ files. IsSomeAnd (files path.now) (λ bytes. max_file_size < length bytes))) }
         ensures missing { IfErr result (HasNoContentsIfUnreadable
-            (contents_below (option_copied self.old.folder) (D.contents self.old.inputs.now)) path.now) }
+            (contents_relative_to (option_copied self.old.directory) (D.contents self.old.inputs.now)) path.now) }
         ensures recorded { MatchResult result (λ _. self.new.unreadable.items ≡ self.old.unreadable.items)
             (λ error. self.new.unreadable.items
             ≡ self.old.unreadable.items ++ unreadable_paths_after path.now error) }
@@ -86,16 +86,16 @@ impl<'a, D: Inputs> RecordingStore<'a, D> {
     // Reads the file at a path, which is relative to the store's directory.
     fn read_resolved_path(&self, alloc: Global, path: &str) -> Result<Vec<u8>, ReadWholeError>
         ensures contents { IfOk result (λ bytes.
-            IfSome (contents_below (option_copied self.now.folder) (D.contents self.now.inputs.now))
+            IfSome (contents_relative_to (option_copied self.now.directory) (D.contents self.now.inputs.now))
             (λ files. files path.now ≡ Some bytes.items)) }
         ensures within { IfOk result (λ bytes. length bytes.items ≤ max_file_size) }
         ensures too_long { IfErr result (λ error. error ≡ ReadWholeError.TooLong →
-            IfSome (contents_below (option_copied self.now.folder) (D.contents self.now.inputs.now))
+            IfSome (contents_relative_to (option_copied self.now.directory) (D.contents self.now.inputs.now))
             (λ files. IsSomeAnd (files path.now) (λ bytes. max_file_size < length bytes))) }
         ensures missing { IfErr result (HasNoContentsIfUnreadable
-            (contents_below (option_copied self.now.folder) (D.contents self.now.inputs.now)) path.now) }
+            (contents_relative_to (option_copied self.now.directory) (D.contents self.now.inputs.now)) path.now) }
     {
-        let resolved = resolved_path(alloc, self.folder, path)?;
+        let resolved = resolved_path(alloc, self.directory, path)?;
         match read_whole_up_to(self.inputs, alloc, resolved.as_str(), MAX_FILE_SIZE)? {
             Some(bytes) => Ok(bytes),
             None => Err(ReadWholeError::TooLong),
@@ -109,7 +109,7 @@ impl<'a, D: Inputs> RecordingStore<'a, D> {
         path: &str,
         reason: ErrorKind,
     ) -> Result<(), AllocError>
-        ensures inputs_unchanged { (self.new.inputs ≡ self.old.inputs) × (self.new.folder ≡ self.old.folder) }
+        ensures inputs_unchanged { (self.new.inputs ≡ self.old.inputs) × (self.new.directory ≡ self.old.directory) }
         ensures recorded { OnOk result
             (self.new.unreadable.items ≡ self.old.unreadable.items ++ unreadable_path path.now reason ∷ []) }
         ensures unchanged_on_error { OnErr result (self.new.unreadable.items ≡ self.old.unreadable.items) }
@@ -121,7 +121,7 @@ impl<'a, D: Inputs> RecordingStore<'a, D> {
 }
 
 impl<'a, D: Inputs> Store for RecordingStore<'a, D> {
-    ghost contents = { λ store. contents_below (option_copied store.folder) (D.contents store.inputs.now) };
+    ghost contents = { λ store. contents_relative_to (option_copied store.directory) (D.contents store.inputs.now) };
 
     ghost fault_count = { λ store. length store.unreadable.items };
 

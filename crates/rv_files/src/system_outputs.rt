@@ -165,7 +165,7 @@ impl<'a, R: Files> Outputs for SystemOutputs<'a, R>
 where
     R::File: FileLock,
 {
-    type Place = PendingFile;
+    type Pending = PendingFile;
 
     type File = FileSink<R::File>;
 
@@ -237,7 +237,7 @@ where
     }
 
     // Renames a temporary file to its final path. A file that was written directly stays as it is.
-    fn place(&mut self, target: PendingFile, file: SyncedFile<R::File>) -> Result<(), FileError> {
+    fn commit(&mut self, target: PendingFile, file: SyncedFile<R::File>) -> Result<(), FileError> {
         // The file stays open, and so stays locked, until this function returns, when it has its final path.
         let SyncedFile { file: _locked } = file;
         let Some(paths) = &target.paths else {

@@ -26,20 +26,20 @@ fn write_file<F: Outputs>(
     ensures { OnOk result (IfSome (F.committed outputs.old)
         (λ earlier. F.committed outputs.new ≡ Some (earlier ++ committed_file path.now bytes.now ∷ []))) }
 {
-    let (place, mut file) = outputs.create(alloc, path)?;
+    let (pending, mut file) = outputs.create(alloc, path)?;
     if put_all(&mut file, bytes).is_err() {
-        outputs.abandon(place);
+        outputs.abandon(pending);
         return Err(FileError::OutOfMemory);
     }
     let synced = outputs.sync(file)?;
-    outputs.place(place, synced)
+    outputs.commit(pending, synced)
 }
 
 // Returns a text for the outcome of writing a file.
 fn outcome_text(outcome: Result<(), FileError>) -> &'static str {
     match outcome {
         Ok(()) => "placed",
-        Err(FileError::SameFile) => "the same place",
+        Err(FileError::SameFile) => "the same file",
         Err(FileError::Failed(_)) => "failed",
         Err(FileError::OutOfMemory) => "out of memory",
     }
@@ -49,12 +49,12 @@ fn outcome_text(outcome: Result<(), FileError>) -> &'static str {
 // contents at the first path.
 const PAIRS: &str = "\
 report|junit|placed|first
-report|report|the same place|first
-report|./report|the same place|first
-report|link|the same place|first
-link|report|the same place|first
-report|report.new|the same place|first
-report.new|report|the same place|first
+report|report|the same file|first
+report|./report|the same file|first
+report|link|the same file|first
+link|report|the same file|first
+report|report.new|the same file|first
+report.new|report|the same file|first
 report|missing/report|failed|first
 /dev/null|/dev/null|placed|
 ";
@@ -68,15 +68,15 @@ where
     let mut cells = line.split('|');
     let first = cells.next().unwrap_or("");
     let second = cells.next().unwrap_or("");
-    let wanted = cells.next().unwrap_or("");
+    let expected = cells.next().unwrap_or("");
     let text = cells.next().unwrap_or("");
     let mut outputs = SystemOutputs::new(rt, alloc);
-    let (place, mut file) = outputs.create(alloc, first)?;
+    let (pending, mut file) = outputs.create(alloc, first)?;
     put_all(&mut file, b"first")?;
     let answer = outcome_text(write_file(&mut outputs, alloc, second, b"second"));
-    assert_eq!(rt; answer, wanted, "{line}");
+    assert_eq!(rt; answer, expected, "{line}");
     let synced = outputs.sync(file)?;
-    outputs.place(place, synced)?;
+    outputs.commit(pending, synced)?;
     let read = SystemInputs::new(rt).read_up_to(alloc, first, 9)?;
     assert_eq!(rt; read.as_slice(), text.as_bytes(), "{line}");
     // The path is available again.
@@ -127,14 +127,14 @@ fn written_paths_are_compared_with_read_ones(rt: HostRuntime) -> Result<(), Fail
         let mut cells = line.split('|');
         let written = cells.next().unwrap_or("");
         let read = cells.next().unwrap_or("");
-        let wanted = cells.next().unwrap_or("") == "yes";
+        let expected = cells.next().unwrap_or("") == "yes";
         let outputs = SystemOutputs::new(&rt, rt.alloc());
         let identity = outputs.identity(rt.alloc(), read)?;
         let replaced = outputs.replaced_files(rt.alloc(), written)?;
         let is_replaced = replaced
             .iter()
             .any(|file| file.as_str() == identity.as_str());
-        assert_eq!(rt; is_replaced, wanted, "{line}");
+        assert_eq!(rt; is_replaced, expected, "{line}");
     }
     for path in ["report", "link", "hard", "report.new"] {
         fs::remove_file(&rt, path)?;
@@ -176,9 +176,9 @@ fn a_file_is_below_a_directory(rt: HostRuntime) -> Result<(), Fail> {
         let mut cells = line.split('|');
         let directory = cells.next().unwrap_or("");
         let path = cells.next().unwrap_or("");
-        let wanted = cells.next().unwrap_or("") == "yes";
+        let expected = cells.next().unwrap_or("") == "yes";
         let is_below = outputs.is_below(rt.alloc(), directory, path)?;
-        assert_eq!(rt; is_below, wanted, "{line}");
+        assert_eq!(rt; is_below, expected, "{line}");
     }
     for path in ["file", "innermost", "inner/file", "inner/deeper/file"] {
         fs::remove_file(&rt, path)?;
@@ -197,13 +197,13 @@ fn a_path_where_no_file_can_be_written_is_rejected(rt: HostRuntime) -> Result<()
     fs::write(&rt, "fixed", "old")?;
     rt.set_permissions("fixed", Permissions::from_mode(0o444))?;
     let outputs = SystemOutputs::new(&rt, rt.alloc());
-    for (path, wanted) in [
+    for (path, expected) in [
         ("fixed", ErrorKind::PermissionDenied),
         ("absent/file", ErrorKind::NotFound),
         ("fixed/file", ErrorKind::NotADirectory),
     ] {
         match outputs.replaced_files(rt.alloc(), path) {
-            Err(FileError::Failed(reason)) => assert_eq!(rt; reason, wanted, "{path}"),
+            Err(FileError::Failed(reason)) => assert_eq!(rt; reason, expected, "{path}"),
             _ => assert!(rt; false, "{path}"),
         }
     }
@@ -215,7 +215,7 @@ fn a_path_where_no_file_can_be_written_is_rejected(rt: HostRuntime) -> Result<()
 #[test]
 fn a_file_has_one_writer(rt: HostRuntime) -> Result<(), Fail> {
     let mut first = SystemOutputs::new(&rt, rt.alloc());
-    let (place, mut file) = first.create(rt.alloc(), "shared")?;
+    let (pending, mut file) = first.create(rt.alloc(), "shared")?;
     let mut second = SystemOutputs::new(&rt, rt.alloc());
     match second.create(rt.alloc(), "shared") {
         Err(FileError::Failed(reason)) => assert_eq!(rt; reason, ErrorKind::ResourceBusy),
@@ -225,7 +225,7 @@ fn a_file_has_one_writer(rt: HostRuntime) -> Result<(), Fail> {
     let synced = first.sync(file)?;
     // The file is locked until it is placed.
     assert!(rt; second.create(rt.alloc(), "shared").is_err());
-    first.place(place, synced)?;
+    first.commit(pending, synced)?;
     assert_eq!(rt; fs::read(&rt, "shared")?.as_slice(), b"first".as_slice());
     write_file(&mut second, rt.alloc(), "shared", b"second")?;
     assert_eq!(rt; fs::read(&rt, "shared")?.as_slice(), b"second".as_slice());
@@ -263,9 +263,9 @@ fn modes_are_kept(rt: HostRuntime) -> Result<(), Fail> {
 fn a_file_is_abandoned(rt: HostRuntime) -> Result<(), Fail> {
     fs::write(&rt, "kept", "old")?;
     let mut outputs = SystemOutputs::new(&rt, rt.alloc());
-    let (place, mut file) = outputs.create(rt.alloc(), "kept")?;
+    let (pending, mut file) = outputs.create(rt.alloc(), "kept")?;
     put_all(&mut file, b"lost")?;
-    outputs.abandon(place);
+    outputs.abandon(pending);
     assert_eq!(rt; fs::read(&rt, "kept")?.as_slice(), b"old".as_slice());
     assert!(rt; fs::read(&rt, "kept.new").is_err());
     write_file(&mut outputs, rt.alloc(), "kept", b"new")?;
@@ -279,13 +279,13 @@ fn a_file_is_abandoned(rt: HostRuntime) -> Result<(), Fail> {
 fn a_file_that_cannot_be_placed_is_removed(rt: HostRuntime) -> Result<(), Fail> {
     fs::write(&rt, "turned", "old")?;
     let mut outputs = SystemOutputs::new(&rt, rt.alloc());
-    let (place, mut file) = outputs.create(rt.alloc(), "turned")?;
+    let (pending, mut file) = outputs.create(rt.alloc(), "turned")?;
     put_all(&mut file, b"lost")?;
     let synced = outputs.sync(file)?;
     // A directory replaced the file in the meantime.
     fs::remove_file(&rt, "turned")?;
     fs::create_dir(&rt, "turned")?;
-    assert!(rt; outputs.place(place, synced).is_err());
+    assert!(rt; outputs.commit(pending, synced).is_err());
     assert!(rt; fs::read(&rt, "turned.new").is_err());
     fs::remove_dir(&rt, "turned")?;
     write_file(&mut outputs, rt.alloc(), "turned", b"new")?;
@@ -297,7 +297,7 @@ fn a_file_that_cannot_be_placed_is_removed(rt: HostRuntime) -> Result<(), Fail> 
 // Outputs in memory fail after the number of steps that they allow.
 #[test]
 fn steps_beyond_the_limit_fail(rt: HostRuntime) -> Result<(), Fail> {
-    for (steps, wanted, count) in [
+    for (steps, expected, count) in [
         (0, "failed", 0),
         (1, "failed", 0),
         (2, "failed", 0),
@@ -305,7 +305,7 @@ fn steps_beyond_the_limit_fail(rt: HostRuntime) -> Result<(), Fail> {
     ] {
         let mut outputs = MemoryOutputs::with_steps(rt.alloc(), steps);
         let answer = outcome_text(write_file(&mut outputs, rt.alloc(), "path", b"bytes"));
-        assert_eq!(rt; answer, wanted, "{steps} steps");
+        assert_eq!(rt; answer, expected, "{steps} steps");
         assert_eq!(rt; outputs.committed_files().len(), count, "{steps} steps");
     }
     Ok(())
@@ -326,15 +326,15 @@ fn memory_files_are_read(rt: HostRuntime) -> Result<(), Fail> {
     files.push(memory_file(rt.alloc(), "image", b"here")?)?;
     files.push(memory_file(rt.alloc(), "folder/image", b"below")?)?;
     let inputs = MemoryInputs::new(files);
-    for (folder, path, wanted) in [
+    for (directory, path, expected) in [
         (None, "image", "here"),
         (Some("folder"), "image", "below"),
         (Some("folder"), "/image", "unread"),
         (None, "folder", "unread"),
     ] {
-        let mut store = RecordingStore::new(&inputs, rt.alloc(), folder);
+        let mut store = RecordingStore::new(&inputs, rt.alloc(), directory);
         match store.read(rt.alloc(), path) {
-            Ok(bytes) => assert_eq!(rt; bytes.as_slice(), wanted.as_bytes(), "{path}"),
+            Ok(bytes) => assert_eq!(rt; bytes.as_slice(), expected.as_bytes(), "{path}"),
             Err(_) => assert_eq!(rt; store.unreadable_paths().len(), 1, "{path}"),
         }
     }

@@ -14,7 +14,7 @@ use Rattle.rv_rows.specs.declared_row.Row.{Row}
 use Rattle.rv_fleet.specs.declared.pieces.Pieces.{Pieces}
 use Rattle.rv_fleet.specs.declared.worker_promise.WorkerResult.{WorkerResult}
 use Rattle.rv_fleet.specs.Batches.{batch_rows}
-use Rattle.rv_fleet.specs.CollectedChunks.{IsIndexRange, AreIndexRanges}
+use Rattle.rv_fleet.specs.CollectedChunks.{IsChunkOfBatch, AreChunksOfBatch}
 use Rattle.rv_engine.specs.Draws.{numbers}
 use Rattle.rv_engine.specs.Passes.{CounterView}
 use Rattle.rv_fleet.specs.Pieces.{piece_count, numbered_piece, piece_count_of_rows}
@@ -29,18 +29,18 @@ All-first P x xs all is each = All-head P x xs (All-same P _ _ (sym is) each)
 -- what a worker made is pieces with the rows of their numbers
 pub pieces_worked : (pieces : Pieces) (draw : CounterView) (worked : WorkerResult) (made : Vec Piece Global)
     → KeepsPromise (batch_rows pieces.batch) pieces.group draw worked → worked.pieces ≡ Ok made
-    → draw.pieces ≡ piece_count pieces → AreIndexRanges pieces made.items
+    → draw.pieces ≡ piece_count pieces → AreChunksOfBatch pieces made.items
 pieces_worked pieces draw worked made has is total =
     let low : ℕ → Bool = λ n. nat_lt n draw.pieces in
     let drawn : List ℕ = numbers worked.pass.draws in
     let kept : made.items ≡ map (numbered_piece pieces) (filter low drawn) =
     subst (λ r. IfOk r (λ (v : Vec Piece Global). v.items ≡ map (numbered_piece pieces) (filter low drawn))) is has.1 in
     let below : (n : ℕ) → low n ≡ true
-    → IsIndexRange pieces (numbered_piece pieces n) = λ n passes. let l : n < draw.pieces =
+    → IsChunkOfBatch pieces (numbered_piece pieces n) = λ n passes. let l : n < draw.pieces =
     ltb-true n draw.pieces passes in (omega arith, refl) in
-    All-same (IsIndexRange pieces) _ _ kept
-    (All-map (IsIndexRange pieces) (numbered_piece pieces) (filter low drawn)
-    (All-weaker (λ n. low n ≡ true) (λ n. IsIndexRange pieces (numbered_piece pieces n)) below (filter low drawn)
+    All-same (IsChunkOfBatch pieces) _ _ kept
+    (All-map (IsChunkOfBatch pieces) (numbered_piece pieces) (filter low drawn)
+    (All-weaker (λ n. low n ≡ true) (λ n. IsChunkOfBatch pieces (numbered_piece pieces n)) below (filter low drawn)
     (filter_passes low drawn)))
 
 -- what stands at the first of the places that are left, and at the others

@@ -7,11 +7,11 @@ use Rattle.rv_rows.specs.Rows.{row_of, rows_at}
 
 -- the rows of the batch's jobs, in order
 abbrev pub batch_rows : Batch → List Row
-batch_rows batch = rows_at batch.plan.now batch.places.now
+batch_rows batch = rows_at batch.plan.now batch.indices.now
 
 -- the index in the plan of the job with this number in the batch, counted from 0
 abbrev pub index_of_number : Batch → ℕ → ℕ
-index_of_number batch number = slice_index_or batch.places.now number 0
+index_of_number batch number = slice_index_or batch.indices.now number 0
 
 -- the row of the job with this number in the batch, counted from 0
 abbrev pub row_of_number : Batch → ℕ → Row

@@ -21,11 +21,11 @@ pub record IsGroupedBatch (plan : PlanView) (indices : List ℕ) (group : ℕ) :
 
 -- the jobs at these indices form a batch of the plan, and the shared counter has the number of its chunks
 abbrev pub CanStart : PlanView → List ℕ → ℕ → CounterView → Type 0
-CanStart plan indices group draw = IsGroupedBatch plan indices group
-    × (draw.pieces ≡ piece_count_of_rows (rows_at plan indices) group)
+CanStart plan indices group counter = IsGroupedBatch plan indices group
+    × (counter.pieces ≡ piece_count_of_rows (rows_at plan indices) group)
 
 -- the promise of a started thread is about these rows, this number of rows in a chunk, and this shared counter
 abbrev pub IsPromiseAbout : List Row → ℕ → CounterView → PromisedHandle WorkerResult WorkerPromise → Type 0
-IsPromiseAbout rows group draw handle =
-    (rows_at handle.promise.plan.now handle.promise.places.now ≡ rows)
-    × (handle.promise.group ≡ group) × (handle.promise.claims.now ≡ draw)
+IsPromiseAbout rows group counter handle =
+    (rows_at handle.promise.plan.now handle.promise.indices.now ≡ rows)
+    × (handle.promise.group ≡ group) × (handle.promise.claims.now ≡ counter)

@@ -11,23 +11,23 @@ use rv_rows::Plan;
 #[derive(Clone, Copy)]
 pub struct Batch<'a> {
     pub plan: &'a Plan,
-    pub places: &'a [usize],
-    pub ghost within: { AreJobIndices plan.now places.now },
-    pub ghost rising: { IsStrictlyIncreasing places.now },
-    pub ghost few: { length places.now ≤ max_jobs },
+    pub indices: &'a [usize],
+    pub ghost within: { AreJobIndices plan.now indices.now },
+    pub ghost rising: { IsStrictlyIncreasing indices.now },
+    pub ghost few: { length indices.now ≤ max_jobs },
 }
 
 impl<'a> Batch<'a> {
     /// Returns the batch of the jobs at these indices, which must be strictly increasing.
-    pub fn new(plan: &'a Plan, places: &'a [usize]) -> Batch<'a>
-        requires within { AreJobIndices plan.now places.now }
-        requires increasing { IsStrictlyIncreasing places.now }
+    pub fn new(plan: &'a Plan, indices: &'a [usize]) -> Batch<'a>
+        requires within { AreJobIndices plan.now indices.now }
+        requires increasing { IsStrictlyIncreasing indices.now }
         ensures plan { result.plan.now ≡ plan.now }
-        ensures places { result.places.now ≡ places.now }
+        ensures indices { result.indices.now ≡ indices.now }
     {
         // There are at most as many strictly increasing indices as jobs, and a plan has at most as many jobs as a list can have.
         let _jobs = plan.jobs();
-        let _places = places.len();
-        Batch { plan, places }
+        let _indices = indices.len();
+        Batch { plan, indices }
     }
 }

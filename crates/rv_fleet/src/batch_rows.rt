@@ -22,7 +22,7 @@ impl Work<Row> for BatchRows<'_> {
     ghost use Rattle.rv_rows.specs.RecentOutcomes.{AreOutcomesOfPlan};
     ghost use Rattle.rv_fleet.specs.Batches.{row_of_number};
 
-    ghost jobs = { λ s. length s.batch.now.places.now };
+    ghost jobs = { λ s. length s.batch.now.indices.now };
 
     ghost is_output = { λ s number row. row ≡ row_of_number s.batch.now number };
 
@@ -30,7 +30,7 @@ impl Work<Row> for BatchRows<'_> {
 
     // Returns the number of jobs in the batch.
     fn jobs(&self) -> usize {
-        self.batch.places.len()
+        self.batch.indices.len()
     }
 
     // Returns the state of a worker that has not run a job.
@@ -39,15 +39,15 @@ impl Work<Row> for BatchRows<'_> {
     }
 
     // Returns the row of the job with this number in the batch, counted from 0.
-    fn make(
+    fn compute(
         &self,
         alloc: Global,
         number: usize,
         worker_state: &mut WorkerState,
     ) -> Result<Row, AllocError> {
-        let place = self.batch.places[number];
+        let index = self.batch.indices[number];
         let (spare, recent) = (&mut worker_state.spare, &mut worker_state.recent);
-        row_at_with_recent(alloc, self.batch.plan, place, spare, recent)
+        row_at_with_recent(alloc, self.batch.plan, index, spare, recent)
     }
 }
 

@@ -2,7 +2,7 @@
 
 ghost use Rattle.std.specs.Prelude.{◌≡◌, ◌<◌, IfOk, IfSome};
 ghost use Rattle.rv_fleet.specs.Batches.{batch_rows};
-ghost use Rattle.rv_fleet.specs.CollectedChunks.{AreIndexRanges, IsIndexRange, AreChunkSlots};
+ghost use Rattle.rv_fleet.specs.CollectedChunks.{AreChunksOfBatch, IsChunkOfBatch, AreChunkSlots};
 ghost use Rattle.rv_fleet.specs.Pieces.{piece_count, piece_rows};
 ghost use Rattle.rv_fleet.specs.WorkerPromises.{AllKeepPromise};
 
@@ -28,21 +28,21 @@ pub(crate) struct CollectedChunks {
 pub(crate) fn collect_chunks(
     alloc: Global,
     claims: &Claims,
-    worked: Vec<WorkerResult>,
+    worker_results: Vec<WorkerResult>,
     pieces: &Pieces<'_>,
 ) -> Result<CollectedChunks, AllocError>
     requires pieces { claims.now.pieces ≡ piece_count pieces.now }
     requires promises { AllKeepPromise
-        (batch_rows pieces.now.batch) pieces.now.group claims.now worked.items }
+        (batch_rows pieces.now.batch) pieces.now.group claims.now worker_results.items }
     ensures slots { IfOk result (λ collected. AreChunkSlots pieces.now collected.slots.items) }
-    ensures pass { IfOk result (λ collected. IfSome collected.pass (λ pass. pass.draw ≡ claims.now)) }
+    ensures pass { IfOk result (λ collected. IfSome collected.pass (λ pass. pass.counter ≡ claims.now)) }
 {
     let mut slots = empty_slots(alloc, pieces)?;
     let mut all = None;
     for WorkerResult {
         pass,
         pieces: chunks,
-    } in worked {
+    } in worker_results {
         store_chunks(&mut slots, pieces, chunks?);
         all = Some(join_passes(claims, all, pass));
     }
@@ -63,7 +63,7 @@ fn empty_slots(alloc: Global, pieces: &Pieces<'_>) -> Result<Vec<Option<Rows>>, 
 // Stores the rows of each of these chunks in the slot of the chunk, if the slot is empty.
 fn store_chunks(slots: &mut Vec<Option<Rows>>, pieces: &Pieces<'_>, chunks: Vec<Piece>)
     requires slots { AreChunkSlots pieces.now slots.old.items }
-    requires chunks { AreIndexRanges pieces.now chunks.items }
+    requires chunks { AreChunksOfBatch pieces.now chunks.items }
     ensures { AreChunkSlots pieces.now slots.new.items }
 {
     for piece in chunks {
@@ -74,7 +74,7 @@ fn store_chunks(slots: &mut Vec<Option<Rows>>, pieces: &Pieces<'_>, chunks: Vec<
 /// Stores the rows of a chunk in the slot of the chunk, if the slot is empty.
 fn store_chunk(slots: &mut Vec<Option<Rows>>, pieces: &Pieces<'_>, piece: Piece)
     requires slots { AreChunkSlots pieces.now slots.old.items }
-    requires piece { IsIndexRange pieces.now piece }
+    requires piece { IsChunkOfBatch pieces.now piece }
     ensures { AreChunkSlots pieces.now slots.new.items }
 {
     let index = piece.number as usize;
@@ -85,9 +85,9 @@ fn store_chunk(slots: &mut Vec<Option<Rows>>, pieces: &Pieces<'_>, piece: Piece)
 
 // Returns the pass of a worker merged with the earlier passes, if there are any.
 fn join_passes(claims: &Claims, joined: Option<Pass>, pass: Pass) -> Pass
-    requires all { IfSome joined (λ other. other.draw ≡ claims.now) }
-    requires pass { pass.draw ≡ claims.now }
-    ensures { result.draw ≡ claims.now }
+    requires all { IfSome joined (λ other. other.counter ≡ claims.now) }
+    requires pass { pass.counter ≡ claims.now }
+    ensures { result.counter ≡ claims.now }
 {
     match joined {
         Some(other) => claims.join(other, pass),
@@ -105,7 +105,7 @@ pub(crate) fn rows_of_all_chunks<G: Gate>(
     requires slots { AreChunkSlots pieces.now slots.items }
     ensures { IfOk result (λ rows. rows ≡ batch_rows pieces.now.batch) }
 {
-    let mut rows: Vec<Row> = Vec::with_capacity(alloc, pieces.batch.places.len())?;
+    let mut rows: Vec<Row> = Vec::with_capacity(alloc, pieces.batch.indices.len())?;
     let mut number = 0;
     for slot in slots {
         let part = rows_in_slot(alloc, slot, pieces, gate, number)?;

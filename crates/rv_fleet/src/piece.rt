@@ -48,8 +48,8 @@ fn rows_of_chunk(
     ensures rows { IfOk result (λ rows. rows ≡ piece_rows pieces.now number) }
     ensures recent { OnOk result (AreOutcomesOfPlan pieces.now.batch.plan.now worker_state.new.recent) }
 {
-    let (plan, places) = (pieces.batch.plan, pieces.batch.places);
-    let jobs = places.len();
+    let (plan, indices) = (pieces.batch.plan, pieces.batch.indices);
+    let jobs = indices.len();
     let group = pieces.group as usize;
     let start = number as usize * group;
     let end = start + group.min(jobs - start);
@@ -58,7 +58,7 @@ fn rows_of_chunk(
         let row = row_at_with_recent(
             alloc,
             plan,
-            places[i],
+            indices[i],
             &mut worker_state.spare,
             &mut worker_state.recent,
         )?;

@@ -23,6 +23,6 @@ impl<'a> Pieces<'a> {
         ensures value { result ≡ piece_count self.now }
         ensures at_most_max_jobs { result ≤ max_jobs }
     {
-        self.batch.places.len().div_ceil(self.group as usize) as u64
+        self.batch.indices.len().div_ceil(self.group as usize) as u64
     }
 }

@@ -35,8 +35,8 @@ pub(crate) fn compute_chunks<R: Threads + Wait, G: Gate>(
     let count = pieces.count();
     let (claims, first) = Claims::new(alloc, count)?;
     let passes = split_passes(alloc, &claims, first, count.min(u64::from(crew.workers)))?;
-    let worked = run_workers(crew, &claims, passes, pieces, gate)?;
-    let CollectedChunks { slots, pass } = collect_chunks(alloc, &claims, worked, pieces)?;
+    let worker_results = run_workers(crew, &claims, passes, pieces, gate)?;
+    let CollectedChunks { slots, pass } = collect_chunks(alloc, &claims, worker_results, pieces)?;
     if let Some(pass) = pass {
         // The rows depend on the workers' promises and not on this result: a chunk that no worker computed is computed later.
         let _each_once = claims.finish(pass);
@@ -51,7 +51,7 @@ fn split_passes(
     first: Pass,
     count: u64,
 ) -> Result<Vec<Pass>, AllocError>
-    requires { (first.draw ≡ claims.now) × (first.draws ≡ []) }
+    requires { (first.counter ≡ claims.now) × (first.draws ≡ []) }
     ensures { IfOk result (λ passes. AreFresh claims.now passes.items) }
 {
     let mut passes = Vec::new(alloc);
@@ -86,38 +86,38 @@ fn run_workers<R: Threads + Wait, G: Gate>(
 ) -> Result<Vec<WorkerResult>, FleetError>
     requires pieces { claims.now.pieces ≡ piece_count pieces.now }
     requires passes { AreFresh claims.now passes.items }
-    ensures { IfOk result (λ worked. AllKeepPromise
-        (batch_rows pieces.now.batch) pieces.now.group claims.now worked.items) }
+    ensures { IfOk result (λ worker_results. AllKeepPromise
+        (batch_rows pieces.now.batch) pieces.now.group claims.now worker_results.items) }
 {
     let (rt, alloc) = (crew.rt, crew.alloc);
     // The closures capture plain references: what a closure ensures is not known if a captured type has a lifetime.
-    let (plan, places, group) = (pieces.batch.plan, pieces.batch.places, pieces.group);
+    let (plan, indices, group) = (pieces.batch.plan, pieces.batch.indices, pieces.group);
     thread::scope(
         thread::scope_env(),
         rt,
         |scope| -> Result<Vec<WorkerResult>, FleetError>
-            requires { CanStart plan.now places.now group claims.now
+            requires { CanStart plan.now indices.now group claims.now
                 × AreFresh claims.now passes.items }
-            ensures { IfOk result (λ worked. AllKeepPromise
-                (rows_at plan.entry.now places.entry.now) group claims.entry.now worked.items) }
+            ensures { IfOk result (λ worker_results. AllKeepPromise
+                (rows_at plan.entry.now indices.entry.now) group claims.entry.now worker_results.items) }
         {
             let mut handles = Vec::with_capacity(alloc, passes.len())?;
             for pass in passes {
                 let promise = WorkerPromise {
                     plan,
-                    places,
+                    indices,
                     group,
                     claims,
                 };
                 let Ok(handle) = scope.spawn_with(
                     promise,
                     move || -> WorkerResult
-                        requires { CanStart plan.now places.now group claims.now
-                            × (pass.draw ≡ claims.now) × (pass.draws ≡ []) }
-                        ensures { KeepsPromise (rows_at plan.entry.now places.entry.now) group
+                        requires { CanStart plan.now indices.now group claims.now
+                            × (pass.counter ≡ claims.now) × (pass.draws ≡ []) }
+                        ensures { KeepsPromise (rows_at plan.entry.now indices.entry.now) group
                             claims.entry.now result }
                     {
-                        let batch = Batch { plan, places };
+                        let batch = Batch { plan, indices };
                         run_worker(alloc, claims, pass, &Pieces { batch, group }, gate)
                     },
                 ) else {

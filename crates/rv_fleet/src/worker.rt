@@ -30,7 +30,7 @@ pub fn work<G: Gate>(
 ) -> Result<Vec<Piece>, AllocError>
     requires group { (0 < group) × (group ≤ max_group) }
     requires pieces { claims.now.pieces ≡ piece_count_of_plan plan.now group }
-    requires pass { pass.old.draw ≡ claims.now }
+    requires pass { pass.old.counter ≡ claims.now }
     ensures pass { HasDrawnMore pass.old pass.new }
     ensures ended { IfOk result (λ _. has_ended pass.new ≡ true) }
     ensures chunks { IfOk result (λ chunks. chunks.items
@@ -52,7 +52,7 @@ pub(crate) fn compute_drawn_chunks<G: Gate>(
     gate: &G,
 ) -> Result<Vec<Piece>, AllocError>
     requires pieces { claims.now.pieces ≡ piece_count pieces.now }
-    requires pass { pass.old.draw ≡ claims.now }
+    requires pass { pass.old.counter ≡ claims.now }
     ensures pass { HasDrawnMore pass.old pass.new }
     ensures ended { IfOk result (λ _. has_ended pass.new ≡ true) }
     ensures chunks { IfOk result (λ chunks. chunks.items
@@ -76,7 +76,7 @@ pub(crate) fn run_worker<G: Gate>(
     gate: &G,
 ) -> WorkerResult
     requires pieces { claims.now.pieces ≡ piece_count pieces.now }
-    requires pass { (pass.draw ≡ claims.now) × (pass.draws ≡ []) }
+    requires pass { (pass.counter ≡ claims.now) × (pass.draws ≡ []) }
     ensures { KeepsPromise (batch_rows pieces.now.batch) pieces.now.group claims.now result }
 {
     let pieces = compute_drawn_chunks(alloc, claims, &mut pass, pieces, gate);

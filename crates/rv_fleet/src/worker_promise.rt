@@ -17,7 +17,7 @@ pub(crate) struct WorkerResult {
 #[derive(Clone, Copy)]
 pub(crate) struct WorkerPromise<'a> {
     pub plan: &'a Plan,
-    pub places: &'a [usize],
+    pub indices: &'a [usize],
     pub group: u32,
     pub claims: &'a Claims,
 }
@@ -26,6 +26,6 @@ impl<'a> Promise<WorkerResult> for WorkerPromise<'a> {
     ghost use Rattle.rv_rows.specs.Rows.{rows_at};
     ghost use Rattle.rv_fleet.specs.WorkerPromises.{KeepsPromise};
 
-    ghost kept_by = { λ p worked.
-        KeepsPromise (rows_at p.plan.now p.places.now) p.group p.claims.now worked };
+    ghost kept_by = { λ p worker_result.
+        KeepsPromise (rows_at p.plan.now p.indices.now) p.group p.claims.now worker_result };
 }

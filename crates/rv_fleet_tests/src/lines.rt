@@ -36,9 +36,9 @@ fn begin_lines_text(alloc: Global, text: &str) -> Result<String, AllocError> {
 #[test]
 fn jobs_before_an_error_are_found(rt: HostRuntime) -> Result<(), Fail> {
     for case in TEXTS.split("\n|\n") {
-        let (text, wanted) = case.rsplit_once(" = ").unwrap_or((case, ""));
+        let (text, expected) = case.rsplit_once(" = ").unwrap_or((case, ""));
         let begins = begin_lines_text(rt.alloc(), text)?;
-        check_equal(case, begins.as_str(), wanted)?;
+        check_equal(case, begins.as_str(), expected)?;
     }
     Ok(())
 }

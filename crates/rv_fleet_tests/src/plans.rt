@@ -147,8 +147,8 @@ fn plan_text(alloc: Global, list: &str, choice: &str) -> Result<String, Fail> {
 fn check(alloc: Global, list: &str, table: &str, lines: usize) -> Result<(), Fail> {
     check_line_count(table, lines)?;
     for row in table.lines() {
-        let told = plan_text(alloc, list, cell_of(row, 0))?;
-        check_equal(row, told.as_str(), cell_of(row, 1))?;
+        let text = plan_text(alloc, list, cell_of(row, 0))?;
+        check_equal(row, text.as_str(), cell_of(row, 1))?;
     }
     Ok(())
 }

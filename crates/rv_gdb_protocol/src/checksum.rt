@@ -23,7 +23,7 @@ pub(crate) fn checksum_check(text: &[u8], high: u8, low: u8) -> Checksum
     ensures { result ≡ checksum_check (checksum_of text.now) (parse_checksum (hex_digit_value high) (hex_digit_value low)) }
 {
     match parse_checksum(high, low) {
-        Some(told) if told == checksum_of(text) => Checksum::Right,
+        Some(received) if received == checksum_of(text) => Checksum::Right,
         _ => Checksum::Wrong,
     }
 }

@@ -22,7 +22,7 @@ pub fn bytes_can_be_split()
 
 /// Proves that if a body with its escapes is short enough to be stored, its packet is received as one packet with a correct checksum,
 /// whose data is the body.
-pub fn framed_bodies_are_read_back()
+pub fn bodies_are_read_back()
     ensures { (body : List ℕ) → length (escaped body) ≤ max_body → IsReadBack body }
 {}
 

@@ -23,8 +23,8 @@ mod target;
 pub use escapes::{push_data, push_escaped};
 pub use frame::{Checksum, Incoming, push_frame};
 pub use law::{
-    bytes_can_be_split, framed_bodies_are_read_back, packets_are_parsed, packets_are_received,
-    parts_fit, received_packets_were_sent, stop_replies_show_the_ending,
+    bodies_are_read_back, bytes_can_be_split, packets_are_parsed, packets_are_received, parts_fit,
+    received_packets_were_sent, stop_replies_show_the_ending,
 };
 pub use parse::parse_request;
 pub use reader::Reader;

@@ -5,7 +5,7 @@ use std::alloc::{AllocError, Global};
 use std::test::Fail;
 
 // Packets of a recorded session with LLDB, and invalid input; `~` is the byte 0x03: label | bytes | what is received.
-const HEARD: &str = "\
+const RECEIVED: &str = "\
 no acknowledgements | +$QStartNoAckMode#b0 | + <QStartNoAckMode>
 why and where | $?#3f$qC#b4 | <?> <qC>
 a part of target.xml | $qXfer:features:read:target.xml:0,3fff#b0 | <qXfer:features:read:target.xml:0,3fff>
@@ -32,9 +32,9 @@ actions | vCont;c;C;s;S;r | $vCont;c;C;s;S;r#0f
 a register | f8000080 | $f8000080#c6
 ";
 
-// Appends a received item, in the form of the last column of `HEARD`.
-fn push_item(text: &mut String, heard: &Incoming) -> Result<(), Fail> {
-    match heard {
+// Appends a received item, in the form of the last column of `RECEIVED`.
+fn push_item(text: &mut String, item: &Incoming) -> Result<(), Fail> {
+    match item {
         Incoming::Interrupt => text.push_str("^C")?,
         Incoming::Acknowledged => text.push_str("+")?,
         Incoming::ResendRequested => text.push_str("-")?,
@@ -51,20 +51,20 @@ fn push_item(text: &mut String, heard: &Incoming) -> Result<(), Fail> {
     Ok(())
 }
 
-// Returns the items that are received if the bytes arrive in chunks of this length, in the form of the last column of `HEARD`.
+// Returns the items that are received if the bytes arrive in chunks of this length, in the form of the last column of `RECEIVED`.
 fn items_text(alloc: Global, bytes: &[u8], length: usize) -> Result<String, Fail> {
     let mut reader = Reader::new(alloc);
     let mut text = String::new(alloc);
     for piece in bytes.chunks(length.max(1)) {
         let mut rest = piece;
         for _ in 0..piece.len() {
-            let (taken, heard) = reader.receive(alloc, rest)?;
-            rest = &rest[taken..];
-            if let Some(heard) = heard {
+            let (consumed, item) = reader.receive(alloc, rest)?;
+            rest = &rest[consumed..];
+            if let Some(item) = item {
                 if !text.as_str().is_empty() {
                     text.push_str(" ")?;
                 }
-                push_item(&mut text, &heard)?;
+                push_item(&mut text, &item)?;
             }
         }
     }
@@ -90,8 +90,8 @@ fn check_received(alloc: Global, line: &str) -> Result<(), Fail> {
 // Packets are received as they were sent, and invalid input is recognized, whatever the length of the chunks in which the bytes arrive.
 #[test]
 fn packets_are_received(rt: HostRuntime) -> Result<(), Fail> {
-    check_line_count(HEARD, 13)?;
-    for line in HEARD.lines() {
+    check_line_count(RECEIVED, 13)?;
+    for line in RECEIVED.lines() {
         check_received(rt.alloc(), line)?;
     }
     Ok(())

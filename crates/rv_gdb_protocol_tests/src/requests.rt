@@ -5,7 +5,7 @@ use std::alloc::Global;
 use std::test::Fail;
 
 // body | the request
-const ASKED: &str = "\
+const REQUESTS: &str = "\
 qSupported:xmlRegisters=i386,arm,mips,arc;multiprocess+ | Features
 QStartNoAckMode | NoAcknowledgements
 ? | LastStop
@@ -143,8 +143,8 @@ qSupported | PacketSize=4000;QStartNoAckMode+;ReverseStep+;ReverseContinue+;qXfe
 // Checks that the body of a line is parsed as the request of the line.
 fn check_request(alloc: Global, line: &str) -> Result<(), Fail> {
     let request = parse_request(alloc, cell_of(line, 0).as_bytes())?;
-    let told = format!(in alloc; "{request:?}")?;
-    check_equal(line, told.as_str(), cell_of(line, 1))
+    let text = format!(in alloc; "{request:?}")?;
+    check_equal(line, text.as_str(), cell_of(line, 1))
 }
 
 // Checks that the request with the body of a line has the reply of the line, which does not depend on the session.
@@ -160,8 +160,8 @@ fn check_reply(alloc: Global, line: &str) -> Result<(), Fail> {
 // Packets of gdb and LLDB are parsed as the expected requests.
 #[test]
 fn packets_are_parsed(rt: HostRuntime) -> Result<(), Fail> {
-    check_line_count(ASKED, 55)?;
-    for line in ASKED.lines() {
+    check_line_count(REQUESTS, 55)?;
+    for line in REQUESTS.lines() {
         check_request(rt.alloc(), line)?;
     }
     Ok(())

@@ -13,7 +13,7 @@ use Rattle.rv_history.specs.declared.stepping.StepResult.TheVariants as stepped
 use Rattle.rv_history.specs.declared.stops.Stops.{Stops}
 use Rattle.rv_history.specs.LastStop.{HaveNoStops, IsLastStopIn, HasNoStopAt, last_at, last_stop_after}
 use Rattle.rv_history.specs.Moves.{HasNoBackwardStop, IsTriggerBefore, IsStepBack, IsStopBefore, IsUninterrupted, IsBackwardStop}
-use Rattle.rv_history.specs.Places.{IsBreakAt, IsTriggerAt, IsReached, last_step}
+use Rattle.rv_history.specs.RunSteps.{IsBreakAt, IsTriggerAt, IsReached, last_step}
 use Rattle.rv_history.specs.Stepping.{IsStepped}
 use Rattle.rv_history.specs.Stops.{TriggersWatch, TriggersNoWatch, is_break}
 use Rattle.rv_history.proofs.Reaching.{next_place}

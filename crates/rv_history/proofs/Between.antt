@@ -17,7 +17,7 @@ use Rattle.rv_history.specs.declared.outcome.SearchEnd.{SearchEnd}
 use Rattle.rv_history.specs.declared.stepping.StepResult.TheVariants as stepped
 use Rattle.rv_history.specs.declared.stops.Stops.{Stops}
 use Rattle.rv_history.specs.LastStop.{IsLastStopIn}
-use Rattle.rv_history.specs.Places.{IsReached, last_step}
+use Rattle.rv_history.specs.RunSteps.{IsReached, last_step}
 use Rattle.rv_history.specs.Stops.{AreUnwatched, is_break, halts_at, is_outside}
 use Rattle.rv_history.proofs.Backward.{last_more}
 use Rattle.rv_history.proofs.Forward.{QuietUpTo, quiet_more}

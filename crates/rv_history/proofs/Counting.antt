@@ -7,7 +7,7 @@ use Rattle.rv_trace.specs.Run.{step_of}
 use Rattle.rv_trace.specs.State.{State}
 use Rattle.rv_trace.specs.Bus.{BusContents}
 use Rattle.rv_history.specs.Counts.{IsFirstStepIfAny, count_at, count_value}
-use Rattle.rv_history.specs.Places.{IsReached, last_step}
+use Rattle.rv_history.specs.RunSteps.{IsReached, last_step}
 use Rattle.rv_history.specs.declared.counts.Count.{Count}
 use Rattle.rv_history.proofs.Reaching.{comes_within, ends_by_budget, ends_here}
 

@@ -8,7 +8,7 @@ use Rattle.rv_history.specs.declared.outcome.MoveResult.TheVariants as outcome
 use Rattle.rv_history.specs.declared.stops.Stops.{Stops}
 use Rattle.rv_history.specs.Counts.{IsFirstStepWith}
 use Rattle.rv_history.specs.Moves.{HasNoForwardStop, HasNoBackwardStop, IsTriggerBefore, IsNextStep, IsNextStop, IsStepBack, IsStopBefore, IsUninterrupted, IsForwardStop, IsBackwardStop}
-use Rattle.rv_history.specs.Places.{IsTriggerAt}
+use Rattle.rv_history.specs.RunSteps.{IsTriggerAt}
 
 -- neither of two places is before the other
 one_place : (p q : ℕ) → (p < q → ⊥) → (q < p → ⊥) → p ≡ q

@@ -12,7 +12,7 @@ use Rattle.rv_history.specs.declared.outcome.MoveResult.{MoveResult}
 use Rattle.rv_history.specs.declared.outcome.MoveResult.TheVariants as outcome
 use Rattle.rv_history.specs.declared.stops.Stops.{Stops}
 use Rattle.rv_history.specs.Moves.{HasNoForwardStop, IsNextStep, IsNextStop, result_at_budget}
-use Rattle.rv_history.specs.Places.{IsTriggerAt, IsHaltAt, IsReached, last_step}
+use Rattle.rv_history.specs.RunSteps.{IsTriggerAt, IsHaltAt, IsReached, last_step}
 use Rattle.rv_history.specs.Stops.{TriggersWatch, TriggersNoWatch, halts_at, access_hit}
 use Rattle.rv_history.proofs.Reaching.{comes_within, ends_by_budget, ends_here, goes_on, next_place}
 

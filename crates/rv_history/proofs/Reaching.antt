@@ -6,7 +6,7 @@ use Rattle.rv_trace.specs.Run.{RunResult, run_after_step, run_of, step_of}
 use Rattle.rv_trace.specs.State.{State}
 use Rattle.rv_trace.specs.Trace.{state_after}
 use Rattle.rv_trace.proofs.Public.{after_more, after_none, completes, steps_more}
-use Rattle.rv_history.specs.Places.{IsReached, last_step}
+use Rattle.rv_history.specs.RunSteps.{IsReached, last_step}
 
 -- ---- one step
 

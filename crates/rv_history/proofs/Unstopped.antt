@@ -27,7 +27,7 @@ use Rattle.rv_history.specs.StoredStates.{IsAt}
 use Rattle.rv_history.specs.LastStop.{HasNoStopAt}
 use Rattle.rv_history.specs.ForwardMoves.{IsForwardMoveEnd, IsMoveInProgress}
 use Rattle.rv_history.specs.Moves.{HasNoForwardStop, IsEndAt, IsNextStop, IsStepBack, IsStopBefore}
-use Rattle.rv_history.specs.Places.{IsTriggerAt, IsHaltAt, last_step}
+use Rattle.rv_history.specs.RunSteps.{IsTriggerAt, IsHaltAt, last_step}
 use Rattle.rv_history.specs.Stops.{AreEmpty, AreUnwatched, TriggersWatch, TriggersNoWatch, first_hit, first_read, is_break, halts_at, hit_or, access_hit, hit_by_access, watch_bytes, watched_bytes}
 use Rattle.rv_history.proofs.Backward.{begins_over}
 use Rattle.rv_history.proofs.Reaching.{by_step, comes_within, ends_by_budget, ends_here, goes_on, ran_to}

@@ -3,7 +3,7 @@ use Rattle.std.specs.Prelude.{ℕ, ◌≡◌, ◌≢◌, ◌<◌, ◌≤◌, ◌
 use Rattle.rv_trace.specs.State.{State}
 use Rattle.rv_trace.specs.Bus.{BusContents}
 use Rattle.rv_trace.specs.Trace.{state_after}
-use Rattle.rv_history.specs.Places.{last_step}
+use Rattle.rv_history.specs.RunSteps.{last_step}
 use Rattle.rv_history.specs.declared.counts.Count.{Count}
 use Rattle.rv_history.specs.declared.counts.Count.TheVariants as count
 

@@ -2,7 +2,7 @@
 use Rattle.std.specs.Prelude.{ℕ, ◌+◌, ◌<◌, ◌≤◌, Bool, Option, Some, None, if◌then◌else◌}
 use Rattle.rv_trace.specs.State.{State}
 use Rattle.rv_history.specs.Moves.{IsStopBefore, IsUninterrupted}
-use Rattle.rv_history.specs.Places.{IsBreakAt, IsTriggerAt}
+use Rattle.rv_history.specs.RunSteps.{IsBreakAt, IsTriggerAt}
 use Rattle.rv_history.specs.declared.outcome.SearchEnd.{SearchEnd}
 use Rattle.rv_history.specs.declared.outcome.MoveResult.TheVariants as move_result
 use Rattle.rv_history.specs.declared.search_back.SearchedPart.{SearchedPart}

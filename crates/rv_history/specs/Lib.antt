@@ -3,7 +3,7 @@ pub mod Stops
 pub mod Starts
 pub mod Stepping
 pub mod LastStop
-pub mod Places
+pub mod RunSteps
 pub mod Moves
 pub mod Counts
 pub mod Positions

@@ -4,7 +4,7 @@ use Rattle.rv_trace.specs.Run.{run_of}
 use Rattle.rv_trace.specs.State.{State}
 use Rattle.rv_trace.specs.declared_ending.Ending.{Ending}
 use Rattle.rv_trace.specs.declared_ending.Ending.TheVariants.{Budget}
-use Rattle.rv_history.specs.Places.{IsBreakAt, IsTriggerAt, IsHaltAt, last_step}
+use Rattle.rv_history.specs.RunSteps.{IsBreakAt, IsTriggerAt, IsHaltAt, last_step}
 use Rattle.rv_history.specs.declared.bounds.Bounds.{Bounds}
 use Rattle.rv_history.specs.declared.outcome.MoveResult.{MoveResult}
 use Rattle.rv_history.specs.declared.outcome.MoveResult.TheVariants as move_result

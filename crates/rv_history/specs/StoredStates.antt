@@ -4,7 +4,7 @@ use Rattle.std.specs.List.{AllPairs}
 use Rattle.rv_trace.specs.Machine.{state_of}
 use Rattle.rv_trace.specs.State.{State}
 use Rattle.rv_history.specs.declared.machine_at.MachineAt.{MachineAt}
-use Rattle.rv_history.specs.Places.{IsReached}
+use Rattle.rv_history.specs.RunSteps.{IsReached}
 
 -- the machine is in the state that the run from `start` has at its step
 abbrev pub IsAt : State → MachineAt → Type 0

@@ -37,7 +37,7 @@ pub(crate) fn next_breakpoint<I: Interrupt>(
     ensures interrupted { IfOk result (λ end. end.outcome ≡ Interrupted → I.was_raised interrupt.new ≡ true) }
     ensures run_unchanged { checkpoints.new ≡ checkpoints.old }
 {
-    'places: while forward_move.at.step < forward_move.budget {
+    'steps: while forward_move.at.step < forward_move.budget {
         if forward_move.is_stopped(stops) {
             return Ok(forward_move.arrived(MoveResult::Breakpoint));
         }
@@ -74,7 +74,7 @@ pub(crate) fn search_breakpoints<I: Interrupt>(
     let mut at = checkpoints.before(alloc, end - 1)?;
     let begin = at.step;
     let mut last = None;
-    'places: while at.step < end {
+    'steps: while at.step < end {
         if is_slice_end(at.step) && is_at_least_a_slice(at.step - begin) && interrupt.is_raised() {
             return Ok(None);
         }

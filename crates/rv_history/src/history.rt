@@ -33,7 +33,7 @@ pub struct History {
 impl Model for History {
     ghost use Rattle.std.specs.Prelude.{◌≤◌};
     ghost use Rattle.rv_trace.specs.Machine.{state_of};
-    ghost use Rattle.rv_history.specs.Places.{IsReached};
+    ghost use Rattle.rv_history.specs.RunSteps.{IsReached};
     ghost use Rattle.rv_history.specs.PositionCode.{position_code};
     ghost use Rattle.rv_history.specs.Positions.{Position};
 
@@ -49,7 +49,7 @@ impl Model for History {
 impl History {
     ghost use Rattle.rv_history.specs.Counts.{IsFirstStepWith, IsFirstStepIfAny};
     ghost use Rattle.rv_history.specs.Moves.{IsNextStep, IsNextStop, IsStepBack, IsStopBefore};
-    ghost use Rattle.rv_history.specs.Places.{IsReached, last_step};
+    ghost use Rattle.rv_history.specs.RunSteps.{IsReached, last_step};
     ghost use Rattle.rv_history.specs.Starts.{start_of};
     ghost use Rattle.rv_history.specs.Stops.{first_triggered};
 

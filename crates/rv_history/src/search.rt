@@ -59,7 +59,7 @@ fn next_stop_by_steps<I: Interrupt>(
     ensures run_unchanged { checkpoints.new ≡ checkpoints.old }
 {
     let mut watched = stops.watched_bytes(alloc, forward_move.at.machine.bus())?;
-    'places: while forward_move.at.step < forward_move.budget {
+    'steps: while forward_move.at.step < forward_move.budget {
         if forward_move.is_stopped(stops) {
             return Ok(forward_move.arrived(MoveResult::Breakpoint));
         }
@@ -99,21 +99,21 @@ fn run_to_end<I: Interrupt>(
     ensures run_unchanged { checkpoints.new ≡ checkpoints.old }
 {
     let at = checkpoints.later_of(alloc, forward_move.at, forward_move.budget)?;
-    let mut way = ForwardMove {
+    let mut current_move = ForwardMove {
         from: forward_move.from,
         budget: forward_move.budget,
         bounds: forward_move.bounds,
         at,
     };
-    'places: while way.at.step < way.budget {
-        if way.store_and_poll(alloc, checkpoints, interrupt)? {
-            return Ok(way.arrived(MoveResult::Interrupted));
+    'steps: while current_move.at.step < current_move.budget {
+        if current_move.store_and_poll(alloc, checkpoints, interrupt)? {
+            return Ok(current_move.arrived(MoveResult::Interrupted));
         }
-        let end = slice_end(way.at.step, way.budget);
-        let ending = way.at.run_to_step(end);
-        if way.at.step < end {
-            return Ok(way.arrived(MoveResult::End(ending)));
+        let end = slice_end(current_move.at.step, current_move.budget);
+        let ending = current_move.at.run_to_step(end);
+        if current_move.at.step < end {
+            return Ok(current_move.arrived(MoveResult::End(ending)));
         }
     }
-    Ok(way.arrived(MoveResult::End(Ending::Budget)))
+    Ok(current_move.arrived(MoveResult::End(Ending::Budget)))
 }

@@ -4,7 +4,7 @@ use rv_history::Interrupt;
 /// An interrupt that is raised at only one poll, or never.
 #[derive(Drop)]
 pub struct Alarm {
-    asked: u32,
+    polls: u32,
     rises_at: u32,
     was_raised: bool,
 }
@@ -13,7 +13,7 @@ impl Alarm {
     /// Creates an interrupt that is raised when it is polled for the `rises_at`-th time, counted from 1.
     pub fn at(rises_at: u32) -> Alarm {
         Alarm {
-            asked: 0,
+            polls: 0,
             rises_at,
             was_raised: false,
         }
@@ -30,8 +30,8 @@ impl Interrupt for Alarm {
 
     // Counts the poll, and returns whether the interrupt is raised at it.
     fn is_raised(&mut self) -> bool {
-        self.asked = self.asked.saturating_add(1);
-        self.was_raised = self.asked == self.rises_at;
+        self.polls = self.polls.saturating_add(1);
+        self.was_raised = self.polls == self.rises_at;
         self.was_raised
     }
 }

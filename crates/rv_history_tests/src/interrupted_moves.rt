@@ -1,6 +1,6 @@
 //! Moves that an interrupt stops, by the lines of a table.
 use crate::alarm::Alarm;
-use crate::moves::{found_text, history_of, stops_of};
+use crate::moves::{history_of, move_result_text, stops_of};
 use rv_history::{Bounds, History, Stops};
 use samples::{cell_of, check_equal, check_line_count};
 use std::alloc::Global;
@@ -55,12 +55,12 @@ fn make_move(
         Direction::Ahead => history.go_on(alloc, stops, Bounds::All, alarm)?,
         Direction::Back => history.go_back(alloc, stops, alarm)?,
     };
-    let told = found_text(alloc, found)?;
-    Ok(format!(in alloc; "{} {told}", history.current_step())?)
+    let reason = move_result_text(alloc, found)?;
+    Ok(format!(in alloc; "{} {reason}", history.current_step())?)
 }
 
 // Makes a move that an interrupt stops, makes it again without an interrupt, and checks both results with the line.
-fn check_moves_from(
+fn check_interrupted_and_repeated_move(
     alloc: Global,
     history: &mut History,
     direction: Direction,
@@ -68,10 +68,10 @@ fn check_moves_from(
     line: &str,
 ) -> Result<(), Fail> {
     let mut alarm = Alarm::at(cell_of(line, 3).parse()?);
-    let met = make_move(alloc, history, direction, stops, &mut alarm)?;
-    check_equal(line, met.as_str(), cell_of(line, 4))?;
-    let met = make_move(alloc, history, direction, stops, &mut Alarm::never())?;
-    check_equal(line, met.as_str(), cell_of(line, 5))
+    let actual = make_move(alloc, history, direction, stops, &mut alarm)?;
+    check_equal(line, actual.as_str(), cell_of(line, 4))?;
+    let actual = make_move(alloc, history, direction, stops, &mut Alarm::never())?;
+    check_equal(line, actual.as_str(), cell_of(line, 5))
 }
 
 // Checks that the interrupt of a line stops a move in this direction, and that the move can then be made again.
@@ -79,7 +79,7 @@ fn check_interrupted(alloc: Global, direction: Direction, line: &str) -> Result<
     let stops = stops_of(alloc, cell_of(line, 2))?;
     let budget = cell_of(line, 1).parse()?;
     let mut history = history_before_move(alloc, direction, budget)?;
-    check_moves_from(alloc, &mut history, direction, &stops, line)
+    check_interrupted_and_repeated_move(alloc, &mut history, direction, &stops, line)
 }
 
 // An interrupt stops a move forward, which can be continued.
@@ -104,10 +104,10 @@ fn backward_moves_are_interrupted(rt: HostRuntime) -> Result<(), Fail> {
 
 // Checks that a move of less than 2^16 steps does not poll the interrupt.
 fn check_short_moves(alloc: Global, history: &mut History, stops: &Stops) -> Result<(), Fail> {
-    let met = make_move(alloc, history, Direction::Ahead, stops, &mut Alarm::at(1))?;
-    check_equal("ahead", met.as_str(), "65000 budget")?;
-    let met = make_move(alloc, history, Direction::Back, stops, &mut Alarm::at(1))?;
-    check_equal("back", met.as_str(), "0 begin")
+    let actual = make_move(alloc, history, Direction::Ahead, stops, &mut Alarm::at(1))?;
+    check_equal("ahead", actual.as_str(), "65000 budget")?;
+    let actual = make_move(alloc, history, Direction::Back, stops, &mut Alarm::at(1))?;
+    check_equal("back", actual.as_str(), "0 begin")
 }
 
 // Moves of less than 2^16 steps do not poll the interrupt.

@@ -33,7 +33,9 @@ no budget | 0 | b80000000 | go_on = 0 budget; go_back = 0 begin; seek 1 = no 0
 
 // Parses a watchpoint, written as address and number of bytes.
 fn watch_of(text: &str) -> Result<Watch, Fail> {
-    let (address, count) = text.split_once(',').ok_or("expected an address and a count")?;
+    let (address, count) = text
+        .split_once(',')
+        .ok_or("expected an address and a count")?;
     let (address, count) = (hex_of(address)?, hex_of(count)?);
     if u64::from(address) + u64::from(count) > 1 << 32 {
         return Err("the watch does not fit in the address space".into());
@@ -59,7 +61,9 @@ pub fn stops_of(alloc: Global, text: &str) -> Result<Stops, Fail> {
         } else if let Some(range) = stop.strip_prefix('r') {
             reads.push(watch_of(range)?)?;
         } else {
-            let range = stop.strip_prefix('a').ok_or("expected a breakpoint or a watchpoint")?;
+            let range = stop
+                .strip_prefix('a')
+                .ok_or("expected a breakpoint or a watchpoint")?;
             accesses.push(watch_of(range)?)?;
         }
     }
@@ -94,7 +98,7 @@ pub fn history_of(alloc: Global, code: &str, budget: u32) -> Result<History, Fai
 }
 
 /// Returns as text the reason why a move ended.
-pub fn found_text(alloc: Global, found: MoveResult) -> Result<String, AllocError> {
+pub fn move_result_text(alloc: Global, found: MoveResult) -> Result<String, AllocError> {
     match found {
         MoveResult::Done => String::from_str(alloc, "done"),
         MoveResult::Breakpoint => String::from_str(alloc, "break"),
@@ -113,22 +117,22 @@ fn move_result(
     alloc: Global,
     history: &mut History,
     stops: &Stops,
-    asked: &str,
+    request: &str,
 ) -> Result<String, Fail> {
-    if let Some(step) = asked.strip_prefix("seek ") {
+    if let Some(step) = request.strip_prefix("seek ") {
         let granted = history.seek(alloc, step.parse()?)?;
-        let told = if granted { "yes" } else { "no" };
-        return Ok(format!(in alloc; "{told} {}", history.current_step())?);
+        let answer = if granted { "yes" } else { "no" };
+        return Ok(format!(in alloc; "{answer} {}", history.current_step())?);
     }
-    let found = match asked {
+    let found = match request {
         "go_on" => history.go_on(alloc, stops, Bounds::All, &mut Alarm::never())?,
         "go_back" => history.go_back(alloc, stops, &mut Alarm::never())?,
         "step" => history.step_forward(alloc, stops)?,
         "step_back" => history.step_back(alloc, stops)?,
         _ => return Err("unknown move".into()),
     };
-    let told = found_text(alloc, found)?;
-    Ok(format!(in alloc; "{} {told}", history.current_step())?)
+    let reason = move_result_text(alloc, found)?;
+    Ok(format!(in alloc; "{} {reason}", history.current_step())?)
 }
 
 // Makes a move of a dialogue, and checks its result.
@@ -139,9 +143,11 @@ fn check_move(
     line: &str,
     part: &str,
 ) -> Result<(), Fail> {
-    let (asked, wanted) = part.split_once(" = ").ok_or("expected a move and its result")?;
-    let met = move_result(alloc, history, stops, asked)?;
-    check_equal(line, met.as_str(), wanted)
+    let (request, expected) = part
+        .split_once(" = ")
+        .ok_or("expected a move and its result")?;
+    let actual = move_result(alloc, history, stops, request)?;
+    check_equal(line, actual.as_str(), expected)
 }
 
 // Makes the moves of a line's dialogue in order, and checks their results.
@@ -166,7 +172,7 @@ fn moves_stop(rt: HostRuntime) -> Result<(), Fail> {
 
 // After a seek to a step, the machine has the state of this step.
 #[test]
-fn registers_are_of_the_place(rt: HostRuntime) -> Result<(), Fail> {
+fn seeks_restore_the_registers(rt: HostRuntime) -> Result<(), Fail> {
     let alloc = rt.alloc();
     let mut history = history_of(alloc, CODE, 100)?;
     for (step, x6) in [(2, 0), (3, 3), (5, 2), (13, 0), (8, 1)] {

@@ -3,7 +3,7 @@ ghost use Rattle.rv_isa.specs.Bits.{field as bits_of};
 ghost use Rattle.rv_isa.specs.Halfwords.{rows16, fits16, Means16, meaning16, Expands};
 ghost use Rattle.rv_isa.specs.Words.{Means32, IsWellFormed};
 ghost use Rattle.rv_isa.specs.declared.instruction.Instr.{Instr};
-ghost use Rattle.rv_isa.specs.declared.isa.Isa.{Isa as Set};
+ghost use Rattle.rv_isa.specs.declared.isa.Isa.{Isa as AnIsa};
 ghost use Rattle.rv_isa.specs.declared.isa.Isa.TheVariants as set;
 ghost use Rattle.std.specs.Prelude.{ℕ, ◌≡◌, ◌↔◌, ◌≤◌, IfSome, IsNone, IsTrue, count_by};
 
@@ -55,7 +55,7 @@ pub fn decode16(half: u16, isa: Isa) -> Option<Instr>
 
 /// Proves that no halfword matches two rows of the RVC listing, in any instruction set. There is no code to run.
 pub fn no_halfword_has_two_rows()
-    ensures { (isa : Set) (half : ℕ) → count_by (fits16 isa half) rows16 ≤ 1 }
+    ensures { (isa : AnIsa) (half : ℕ) → count_by (fits16 isa half) rows16 ≤ 1 }
 {}
 
 // Returns the instruction to which a halfword decodes, or `None` if it decodes to none in this instruction set, as [`decode16`] does.

@@ -5,7 +5,7 @@ ghost use Rattle.rv_isa.specs.Words.{branches, loads, stores, immediate_ops, shi
 ghost use Rattle.rv_isa.specs.Words.{register_ops, register_alternate_ops, fences, instruction_fences, muldiv_ops};
 ghost use Rattle.rv_isa.specs.Extensions.{has_extension, RV32M};
 ghost use Rattle.rv_isa.specs.declared.instruction.Instr.{Instr};
-ghost use Rattle.rv_isa.specs.declared.isa.Isa.{Isa as Set};
+ghost use Rattle.rv_isa.specs.declared.isa.Isa.{Isa as AnIsa};
 ghost use Rattle.std.specs.Prelude.{ℕ, ◌≡◌, ◌↔◌, ◌≤◌, ◌==◌, ◌&&◌, ◌++◌, if◌then◌else◌, IfSome, count_by};
 
 use crate::bits::field;
@@ -30,7 +30,7 @@ pub fn decode32(word: u32, isa: Isa) -> Option<Instr>
 
 /// Proves that no word matches two rows of the RV32G listing, in any instruction set. There is no code to run.
 pub fn no_word_has_two_rows()
-    ensures { (isa : Set) (word : ℕ) → count_by (fits isa word) rows ≤ 1 }
+    ensures { (isa : AnIsa) (word : ℕ) → count_by (fits isa word) rows ≤ 1 }
 {}
 
 // Returns the instruction to which a 32-bit word decodes, or `None` if it decodes to none in this instruction set, as [`decode32`] does.

@@ -99,12 +99,12 @@ word_address_text (Some first) index =
     codes " (" ++ word_digits ((first + 4 * index) % 2 ^ 32) ++ codes ")"
 
 -- the index of a word, its address if `first`, the address of the first word, is known, and `: expected `
-unfoldable pub word_location_text : Option ℕ → ℕ → List ℕ
-word_location_text first index = codes " at word " ++ decimal index ++ word_address_text first index ++ codes ": expected "
+unfoldable pub word_difference_start : Option ℕ → ℕ → List ℕ
+word_difference_start first index = codes " at word " ++ decimal index ++ word_address_text first index ++ codes ": expected "
 
 -- the location of a word, and its expected and actual digits
 abbrev pub word_difference_text : Option ℕ → ℕ → List ℕ → List ℕ → List ℕ
-word_difference_text first index actual expected = word_location_text first index ++ expected ++ codes ", found " ++ actual
+word_difference_text first index actual expected = word_difference_start first index ++ expected ++ codes ", found " ++ actual
 
 -- the message that a line of a signature file is invalid, and what was expected
 unfoldable pub bad_reference_line_text : ℕ → List ℕ

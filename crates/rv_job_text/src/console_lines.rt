@@ -36,11 +36,11 @@ pub fn push_console_lines(
     ensures { OnOk result (bytes.new.items
         ≡ bytes.old.items ++ console_lines (span_text source.entry) actual.now expected.now) }
 {
-    let parting = skip_equal_lines(actual, expected);
+    let divergence = skip_equal_lines(actual, expected);
     let count = larger(whole_line_count(actual), whole_line_count(expected));
-    push_lines_heading(bytes, source, parting.equal + 1, count)?;
-    push_equal_lines(bytes, parting.equal, actual)?;
-    push_differing_lines(bytes, parting.actual, parting.expected)
+    push_lines_heading(bytes, source, divergence.equal + 1, count)?;
+    push_equal_lines(bytes, divergence.equal, actual)?;
+    push_differing_lines(bytes, divergence.actual, divergence.expected)
 }
 
 // Returns the larger of two numbers.
@@ -113,11 +113,11 @@ fn push_diff_lines(
     let (mut own, mut other) = (own, other);
     let mut left = count;
     while left > 0 && !own.is_empty() {
-        let (line, behind) = split_whole_line(own);
-        let (other_line, other_behind) = split_whole_line(other);
+        let (line, rest_of_own) = split_whole_line(own);
+        let (other_line, rest_of_other) = split_whole_line(other);
         push_diff_line(bytes, margin, line, other_line)?;
-        own = behind;
-        other = other_behind;
+        own = rest_of_own;
+        other = rest_of_other;
         left -= 1;
     }
     Ok(())
@@ -130,8 +130,8 @@ fn text_after_lines(text: &[u8], count: usize) -> &[u8]
     let mut rest = text;
     let mut left = count;
     while left > 0 {
-        let (_, behind) = split_whole_line(rest);
-        rest = behind;
+        let (_, later) = split_whole_line(rest);
+        rest = later;
         left -= 1;
     }
     rest
@@ -144,24 +144,24 @@ fn skip_equal_lines<'a>(actual: &'a [u8], expected: &'a [u8]) -> Divergence<'a>
     ensures actual { complete_lines result.actual.now ≡ drop result.equal (complete_lines actual.now) }
     ensures expected { complete_lines result.expected.now ≡ drop result.equal (complete_lines expected.now) }
 {
-    let mut parting = Divergence {
+    let mut divergence = Divergence {
         equal: 0,
         actual,
         expected,
     };
-    while !parting.actual.is_empty() {
-        let (line, behind) = split_whole_line(parting.actual);
-        let (wanted_line, wanted_behind) = split_whole_line(parting.expected);
-        if line != wanted_line {
-            return parting;
+    while !divergence.actual.is_empty() {
+        let (line, rest_of_actual) = split_whole_line(divergence.actual);
+        let (expected_line, rest_of_expected) = split_whole_line(divergence.expected);
+        if line != expected_line {
+            return divergence;
         }
-        parting = Divergence {
-            equal: parting.equal + 1,
-            actual: behind,
-            expected: wanted_behind,
+        divergence = Divergence {
+            equal: divergence.equal + 1,
+            actual: rest_of_actual,
+            expected: rest_of_expected,
         };
     }
-    parting
+    divergence
 }
 
 // Compares two texts line by line, and returns how many lines differ before the first one that is equal in both, but at most `most`.
@@ -171,13 +171,13 @@ fn differing_line_count(most: usize, actual: &[u8], expected: &[u8]) -> usize
     let (mut actual, mut expected) = (actual, expected);
     let mut count = 0;
     while count < most {
-        let (line, behind) = split_whole_line(actual);
-        let (wanted_line, wanted_behind) = split_whole_line(expected);
-        if line == wanted_line {
+        let (line, rest_of_actual) = split_whole_line(actual);
+        let (expected_line, rest_of_expected) = split_whole_line(expected);
+        if line == expected_line {
             return count;
         }
-        actual = behind;
-        expected = wanted_behind;
+        actual = rest_of_actual;
+        expected = rest_of_expected;
         count += 1;
     }
     count

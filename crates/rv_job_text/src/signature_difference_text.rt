@@ -2,7 +2,7 @@
 
 ghost use Rattle.std.specs.Prelude.{◌≡◌, ◌++◌, ◌+◌, ◌*◌, ◌%◌, ◌^◌, OnOk, option_map};
 ghost use Rattle.rv_text.specs.Spans.{span_text};
-ghost use Rattle.rv_job_text.specs.UnmetLines.{missing_signature_text, bad_reference_line_text, reference_digits_at, word_location_text, reference_difference_text};
+ghost use Rattle.rv_job_text.specs.UnmetLines.{missing_signature_text, bad_reference_line_text, reference_digits_at, word_difference_start, reference_difference_text};
 ghost use Rattle.rv_job_text.specs.UnmetLines.{signature_difference_text, signatures_difference_text, signature_word_digits, word_difference_text};
 
 use crate::difference_text::{bytes_or_empty, push_count_difference, push_prefixed_name};
@@ -141,13 +141,13 @@ fn push_word_difference<'a>(
 }
 
 // Appends the index of a word, its address if `first`, the address of the first word, is known, and `: expected `.
-#[tactic(auto, unfolding(crate::specs::UnmetLines::word_location_text))]
+#[tactic(auto, unfolding(crate::specs::UnmetLines::word_difference_start))]
 fn push_word_location(
     bytes: &mut Vec<u8>,
     first: Option<u32>,
     index: usize,
 ) -> Result<(), AllocError>
-    ensures { OnOk result (bytes.new.items ≡ bytes.old.items ++ word_location_text first index) }
+    ensures { OnOk result (bytes.new.items ≡ bytes.old.items ++ word_difference_start first index) }
 {
     let number = Span::Number(index as u64);
     match first {

@@ -8,7 +8,7 @@ use Rattle.rv_jobs.specs.Plans.{PlanView, paths_used, jobs_needed_for, results_w
 
 -- the paths that were read for a plan, in order of first use
 abbrev pub paths_read : Inside → List (List ℕ)
-paths_read a = paths_used (jobs_needed_for a.jobs a.chosen.items)
+paths_read a = paths_used (jobs_needed_for a.jobs a.gathered_for.items)
 
 -- what contracts see of a plan with these fields
 abbrev pub plan_view : Inside → PlanView

@@ -121,12 +121,12 @@ fn read_paths_of_job<'a, S: Store>(
     let (first, image) = results.read_path_once(alloc, store, job.image.as_str())?;
     let (second, reference) = read_path_if_any(alloc, store, first, reference_path(job))?;
     let (third, console) = read_path_if_any(alloc, store, second, console_path(job))?;
-    let places = ResultIndices {
+    let indices = ResultIndices {
         image,
         reference,
         console,
     };
-    Ok((third, places))
+    Ok((third, indices))
 }
 
 /// Returns the path of a job's expected signature, or `None` if it expects none.
@@ -204,10 +204,10 @@ fn result_indices_of_job(
     ensures { ArePartialResultIndices (paths_of results.now) job.now result }
 {
     match recorded {
-        Some(places) => PartialResultIndices {
-            image: Some(places.image),
-            reference: places.reference,
-            console: places.console,
+        Some(indices) => PartialResultIndices {
+            image: Some(indices.image),
+            reference: indices.reference,
+            console: indices.console,
         },
         None => PartialResultIndices {
             image: results.index_of_path(job.image.as_str()),

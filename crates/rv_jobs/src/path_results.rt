@@ -80,24 +80,24 @@ impl<'a> PathResults<'a> {
             mut indices,
         } = self;
         let next = results.len();
-        if let Some(place) = indices.insert(path, next)? {
-            indices.insert(path, place)?;
-            let asked = PathResults {
+        if let Some(index) = indices.insert(path, next)? {
+            indices.insert(path, index)?;
+            let path_results = PathResults {
                 results,
                 paths,
                 indices,
             };
-            return Ok((asked, place));
+            return Ok((path_results, index));
         }
         let kept = read_path(alloc, store, path)?;
         results.push(kept)?;
         paths.push(path)?;
-        let asked = PathResults {
+        let path_results = PathResults {
             results,
             paths,
             indices,
         };
-        Ok((asked, next))
+        Ok((path_results, next))
     }
 
     /// Returns the index of the result for a path, or `None` if it has none.

@@ -24,7 +24,7 @@ use std::marker::Model;
 pub struct Plan {
     jobs: JobList,
     // The indices of the jobs for which the plan was gathered.
-    chosen: Vec<usize>,
+    gathered_for: Vec<usize>,
     // The result for each path that the rows of these jobs need, in order of first use.
     results: Vec<Kept>,
     // The indices of the results for each job's paths.
@@ -93,11 +93,11 @@ pub fn gather_jobs<S: Store>(
         jobs.as_slice(),
         recorded.as_slice(),
     )?;
-    let chosen = Vec::from_slice(alloc, indices)?;
+    let gathered_for = Vec::from_slice(alloc, indices)?;
     let results = path_results.into_results();
     Ok(Plan {
         jobs,
-        chosen,
+        gathered_for,
         results,
         result_indices: result_indices_of_jobs,
         not_read: Kept::Unreadable,
@@ -180,7 +180,7 @@ impl Plan {
             → result.now ≡ result_or_unreadable self.now.results path }
     {
         match index {
-            Some(place) => &self.results[place],
+            Some(index) => &self.results[index],
             None => &self.not_read,
         }
     }

@@ -46,7 +46,7 @@ fn push_xml_piece(alloc: Global, text: &mut String, piece: XmlPiece<'_>) -> Resu
 {
     match piece {
         XmlPiece::Text(words) => text.push_str(words),
-        XmlPiece::Count(number, noun) => push_file_reply_prefix(text, number, noun),
+        XmlPiece::Count(number, noun) => push_count(text, number, noun),
         XmlPiece::Attribute(name, value) => push_attribute(alloc, text, name, value),
         XmlPiece::NumberAttribute(name, number) => push_number_attribute(text, name, number),
         XmlPiece::Element(bytes) => push_xml_text(alloc, text, XmlContext::Element, bytes),
@@ -55,7 +55,7 @@ fn push_xml_piece(alloc: Global, text: &mut String, piece: XmlPiece<'_>) -> Resu
 
 // Appends a number and a noun, in the singular for 1 and in the plural otherwise.
 #[tactic(auto, unfolding(rv_text::specs::Numbers::count_text))]
-fn push_file_reply_prefix(text: &mut String, number: u64, noun: &str) -> Result<(), AllocError>
+fn push_count(text: &mut String, number: u64, noun: &str) -> Result<(), AllocError>
     ensures { OnOk result (string_bytes text.new ≡ string_bytes text.old ++ count_text number noun.now) }
 {
     write!(text, "{number} {noun}")?;

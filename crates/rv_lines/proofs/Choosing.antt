@@ -6,7 +6,7 @@ use Rattle.std.proofs.lemmas.Bool.Decides.{nat_tests}
 use Rattle.rv_lines.specs.declared.span.SourceLine.{SourceLine}
 use Rattle.rv_lines.specs.declared.span.Span.{Span}
 use Rattle.rv_lines.specs.Lines.{covers, chosen, source_at}
-use Rattle.rv_lines.specs.SearchInside.{higher, note_span_at}
+use Rattle.rv_lines.specs.SearchInside.{higher, recorded_at}
 
 abbrev pub below : Span → Span → Bool
 below s t = nat_lt s.source.low t.source.low
@@ -100,7 +100,7 @@ source_of o = option_map (λ s. s.source) o
 -- what is found for an address after spans
 abbrev pub noted_by : ℕ → Option SourceLine → List Span → Option SourceLine
 noted_by a found [] = found
-noted_by a found (s ∷ spans) = noted_by a (note_span_at s a found) spans
+noted_by a found (s ∷ spans) = noted_by a (recorded_at s a found) spans
 
 higher_better : (b : Option Span) (s : Span) → higher s.source (source_of b) ≡ source_of (better b s)
 higher_better None s = refl

@@ -9,7 +9,7 @@ use Rattle.rv_lines.specs.declared.error.UnitError.{UnitError}
 use Rattle.rv_lines.specs.declared.error.UnitError.TheVariants as unit
 use Rattle.rv_lines.specs.declared.forms.Field.{Field}
 use Rattle.rv_lines.specs.Reading.{◌>>=◌, Read, string_at}
-use Rattle.rv_lines.specs.Entries.{Strings, Entry, empty_entry, entry_at, entries_at, numbers_at, list_at}
+use Rattle.rv_lines.specs.Entries.{Strings, Entry, empty_entry, entry_at, entries_at, numbers_at, legacy_list_at}
 use Rattle.rv_lines.specs.EntriesInside.{is_index, summarised, picked, Summary}
 
 -- the entry at an index of a list, counted from k
@@ -116,11 +116,11 @@ module _ (strings : Strings) (fields : List Field) (index : Option ℕ) (total :
 -- what follows the name of an entry
 abbrev pub after_name : ℕ → Bool → List ℕ → List ℕ → Read (List Entry)
 after_name most of_files name after = cond (length name == 0) (Ok ([], after)) (numbers_at of_files after >>= λ directory.
-    with_entry (record { name = name; directory = directory.0 }) (list_at most of_files directory.1))
+    with_entry (record { name = name; directory = directory.0 }) (legacy_list_at most of_files directory.1))
 
 list_one : (most : ℕ) (of_files : Bool) (bytes : List ℕ)
-    → list_at (suc most) of_files bytes ≡ (string_at unit.HeaderCutOff bytes >>= λ name. after_name most of_files name.0 name.1)
-unfolding list_at
+    → legacy_list_at (suc most) of_files bytes ≡ (string_at unit.HeaderCutOff bytes >>= λ name. after_name most of_files name.0 name.1)
+unfolding legacy_list_at
 list_one most of_files bytes = refl
 
 no_text : (e : UnitError) → string_at unit.HeaderCutOff [] ≡ Err e → unit.HeaderCutOff ≡ e
@@ -131,12 +131,12 @@ none_read : (x : List ℕ × List ℕ) → string_at unit.HeaderCutOff [] ≡ Ok
 unfolding string_at
 none_read x h = cc
 
-list_none : (of_files : Bool) (bytes : List ℕ) → list_at zero of_files bytes ≡ Err unit.HeaderCutOff
-unfolding list_at
+list_none : (of_files : Bool) (bytes : List ℕ) → legacy_list_at zero of_files bytes ≡ Err unit.HeaderCutOff
+unfolding legacy_list_at
 list_none of_files bytes = refl
 
 list_text_fails : (most : ℕ) (of_files : Bool) (bytes : List ℕ) (e : UnitError) → length bytes ≤ most → string_at unit.HeaderCutOff bytes ≡ Err e
-    → list_at most of_files bytes ≡ Err e
+    → legacy_list_at most of_files bytes ≡ Err e
 list_text_fails zero of_files [] e le h = list_none of_files [] ∙ ap Err (no_text e h)
 list_text_fails zero of_files (b ∷ bytes) e le h = absurd (omega arith)
 list_text_fails (suc most) of_files bytes e le h = list_one most of_files bytes ∙ ap (λ r. r >>= λ name. after_name most of_files name.0 name.1) h
@@ -145,7 +145,7 @@ list_text_fails (suc most) of_files bytes e le h = list_one most of_files bytes 
 record AfterName (most : ℕ) (of_files : Bool) (bytes name after : List ℕ) : Type 0 where
   pub fewer : ℕ
   pub enough : length after ≤ fewer
-  pub is : list_at most of_files bytes ≡ after_name fewer of_files name after
+  pub is : legacy_list_at most of_files bytes ≡ after_name fewer of_files name after
 
 pub fewer_after : (n : ℕ) (r : Read (List ℕ)) (name after : List ℕ) → Fewer n r → r ≡ Ok (name, after) → length after < n
 fewer_after n r name after f h = subst (Fewer n) h f
@@ -165,7 +165,7 @@ within_after n r directory rest w e = subst (Within n) e w
 pub record ListLeft (of_files : Bool) (index : Option ℕ) (total : Read Summary) (k : ℕ) (found : Option Entry) (bytes : List ℕ) : Type 0 where
   pub most : ℕ
   pub enough : length bytes ≤ most
-  pub is : resumed k index found (list_at most of_files bytes) ≡ total
+  pub is : resumed k index found (legacy_list_at most of_files bytes) ≡ total
 
 module _ (of_files : Bool) (index : Option ℕ) (total : Read Summary) (k : ℕ) (found : Option Entry) (bytes : List ℕ) (so_far : ListLeft of_files index total k found bytes) where
   pub list_fails : (e : UnitError) → string_at unit.HeaderCutOff bytes ≡ Err e → total ≡ Err e
@@ -177,16 +177,16 @@ module _ (of_files : Bool) (index : Option ℕ) (total : Read Summary) (k : ℕ)
 
     pub list_ends : length name ≡ 0 → total ≡ Ok ((k, found), after)
     list_ends empty = sym so_far.is ∙ ap (resumed k index found) (named.is ∙ ap (λ n. cond (n == 0) (Ok ([], after)) (numbers_at of_files after >>= λ directory.
-        with_entry (record { name = name; directory = directory.0 }) (list_at named.fewer of_files directory.1))) empty) ∙ resumed_end k index found after
+        with_entry (record { name = name; directory = directory.0 }) (legacy_list_at named.fewer of_files directory.1))) empty) ∙ resumed_end k index found after
 
-    longer : 0 < length name → list_at so_far.most of_files bytes ≡ (numbers_at of_files after >>= λ directory.
-        with_entry (record { name = name; directory = directory.0 }) (list_at named.fewer of_files directory.1))
+    longer : 0 < length name → legacy_list_at so_far.most of_files bytes ≡ (numbers_at of_files after >>= λ directory.
+        with_entry (record { name = name; directory = directory.0 }) (legacy_list_at named.fewer of_files directory.1))
     longer l = named.is ∙ ap (λ b. cond b (Ok ([], after)) (numbers_at of_files after >>= λ directory.
-        with_entry (record { name = name; directory = directory.0 }) (list_at named.fewer of_files directory.1))) (ne_eqb (length name) 0 (λ z. omega arith))
+        with_entry (record { name = name; directory = directory.0 }) (legacy_list_at named.fewer of_files directory.1))) (ne_eqb (length name) 0 (λ z. omega arith))
 
     pub list_numbers_fail : (e : UnitError) → 0 < length name → numbers_at of_files after ≡ Err e → total ≡ Err e
     list_numbers_fail e l n = sym so_far.is ∙ ap (resumed k index found) (longer l ∙ ap (λ r. r >>= λ directory.
-        with_entry (record { name = name; directory = directory.0 }) (list_at named.fewer of_files directory.1)) n)
+        with_entry (record { name = name; directory = directory.0 }) (legacy_list_at named.fewer of_files directory.1)) n)
 
     pub list_on : (directory : ℕ) (rest : List ℕ) → 0 < length name → numbers_at of_files after ≡ Ok (directory, rest)
         → ListLeft of_files index total (k + 1) (cond (is_index index k) (Some (record { name = name; directory = directory })) found) rest
@@ -197,6 +197,6 @@ module _ (of_files : Bool) (index : Option ℕ) (total : Read Summary) (k : ℕ)
           most = named.fewer;
           enough = omega arith;
           is = sym (ap (resumed k index found) (longer l ∙ ap (λ r. r >>= λ directory.
-              with_entry (record { name = name; directory = directory.0 }) (list_at named.fewer of_files directory.1)) n)
-              ∙ resumed_on k index found (record { name = name; directory = directory }) (list_at named.fewer of_files rest)) ∙ so_far.is;
+              with_entry (record { name = name; directory = directory.0 }) (legacy_list_at named.fewer of_files directory.1)) n)
+              ∙ resumed_on k index found (record { name = name; directory = directory }) (legacy_list_at named.fewer of_files rest)) ∙ so_far.is;
         }

@@ -16,7 +16,7 @@ use Rattle.rv_lines.specs.declared.span.SourceLine.{SourceLine}
 use Rattle.rv_lines.specs.Operations.{Program, operation_at, program, prepend_operation}
 use Rattle.rv_lines.specs.Rows.{initial, apply, row_of, row_added, next_state, in_front, rows_of, lacks_file, is_open, program_rows}
 use Rattle.rv_lines.specs.Lines.{covers_nothing, spans_after, span}
-use Rattle.rv_lines.specs.SearchInside.{file_check, noted_all}
+use Rattle.rv_lines.specs.SearchInside.{file_check, recorded_all}
 use Rattle.rv_lines.specs.Reading.{Read}
 use Rattle.rv_lines.proofs.Noting.{noted_all_append}
 use Rattle.rv_lines.proofs.Shorter.{Within, operation_within}
@@ -105,17 +105,17 @@ module _ (p : Parameters) (files : FileNumbers) (lengths : List ℕ) where
 
   -- a row in front
   closed_with : (row : Row) (error : Option UnitError) (rows : List Row) (any : Bool)
-      → cond {A = Rows} any (Err FileNumber) (option_map_or Err error (cond (is_open (not row.ends) rows) (Err OpenSequence) (Ok (row ∷ rows))))
-      ≡ with_rows (row ∷ []) (cond any (Err FileNumber) (option_map_or Err error (closed_from (not row.ends) rows)))
+      → cond {A = Rows} any (Err FileNumber) (option_map_or Err error (cond (is_open (not row.ends_sequence) rows) (Err OpenSequence) (Ok (row ∷ rows))))
+      ≡ with_rows (row ∷ []) (cond any (Err FileNumber) (option_map_or Err error (closed_from (not row.ends_sequence) rows)))
   closed_with row error rows true = refl
   closed_with row (Some e) rows false = refl
-  closed_with row None rows false = elim (is_open (not row.ends) rows) as (λ b. cond {A = Rows} b (Err OpenSequence) (Ok (row ∷ rows)) ≡ with_rows (row ∷ []) (cond b (Err OpenSequence) (Ok rows))) [
+  closed_with row None rows false = elim (is_open (not row.ends_sequence) rows) as (λ b. cond {A = Rows} b (Err OpenSequence) (Ok (row ∷ rows)) ≡ with_rows (row ∷ []) (cond b (Err OpenSequence) (Ok rows))) [
     | true ↦ refl
     | false ↦ refl
   ]
 
   row_in_front : (row : Row) (begun : Bool) (error : Option UnitError) (rows : List Row) → lacks_file files row ≡ false
-      → checked_from begun error (row ∷ rows) ≡ with_rows (row ∷ []) (checked_from (not row.ends) error rows)
+      → checked_from begun error (row ∷ rows) ≡ with_rows (row ∷ []) (checked_from (not row.ends_sequence) error rows)
   row_in_front row begun error rows l =
       ap (λ b. cond {A = Rows} (b || list_any (lacks_file files) rows) (Err FileNumber) (option_map_or Err error (closed_from begun (row ∷ rows)))) l
       ∙ closed_with row error rows (list_any (lacks_file files) rows)
@@ -188,7 +188,7 @@ pub record NotedSoFar (p : Parameters) (files : FileNumbers) (lengths : List ℕ
   pub front : List Row
   pub is : total ≡ with_rows front (left p files lengths most s bytes)
   pub last : before ≡ last_after None front
-  pub noted : found ≡ noted_all (spans_after unit None front) addresses old
+  pub noted : found ≡ recorded_all (spans_after unit None front) addresses old
 
 module _ (p : Parameters) (files : FileNumbers) (lengths : List ℕ) (total : Rows) (unit : ℕ) (addresses : List ℕ) (old : List (Option SourceLine))
     (s : State) (before : Option Row) (found : List (Option SourceLine)) where
@@ -232,7 +232,7 @@ module _ (p : Parameters) (files : FileNumbers) (lengths : List ℕ) (total : Ro
 
   pub so_far_on : (bytes rest : List ℕ) (op : Operation) (now : List (Option SourceLine)) → 0 < length bytes → operation_at p.opcode_base lengths bytes ≡ Ok (op, rest)
       → file_check files (row_added op (apply p op s)) ≡ Ok tt
-      → now ≡ noted_all (spans_after unit before (in_front (row_added op (apply p op s)) [])) addresses found
+      → now ≡ recorded_all (spans_after unit before (in_front (row_added op (apply p op s)) [])) addresses found
       → NotedSoFar p files lengths total unit addresses old s before bytes found
       → NotedSoFar p files lengths total unit addresses old (next_state p op (apply p op s)) (option_or (row_added op (apply p op s)) before) rest now
   so_far_on bytes rest op now lt h l n so_far =
@@ -245,9 +245,9 @@ module _ (p : Parameters) (files : FileNumbers) (lengths : List ℕ) (total : Ro
         front = front ++ more;
         is = so_far.is ∙ ap (with_rows front) one.is ∙ with_more front more (left p files lengths one.fewer (next_state p op (apply p op s)) rest);
         last = ap (option_or (row_added op (apply p op s))) so_far.last ∙ last_more None front (row_added op (apply p op s));
-        noted = n ∙ ap (noted_all (spans_after unit before more) addresses) so_far.noted
-            ∙ ap (λ b. noted_all (spans_after unit b more) addresses (noted_all (spans_after unit None front) addresses old)) so_far.last
-            ∙ sym (ap (λ spans. noted_all spans addresses old) (spans_append unit None front more)
+        noted = n ∙ ap (recorded_all (spans_after unit before more) addresses) so_far.noted
+            ∙ ap (λ b. recorded_all (spans_after unit b more) addresses (recorded_all (spans_after unit None front) addresses old)) so_far.last
+            ∙ sym (ap (λ spans. recorded_all spans addresses old) (spans_append unit None front more)
             ∙ noted_all_append (spans_after unit None front) (spans_after unit (last_after None front) more) addresses old);
       }
 
@@ -259,7 +259,7 @@ module _ (p : Parameters) (files : FileNumbers) (lengths : List ℕ) (total : Ro
   pub record AllNoted : Type 0 where
     pub rows : List Row
     pub is : total ≡ Ok rows
-    pub noted : found ≡ noted_all (spans_after unit None rows) addresses old
+    pub noted : found ≡ recorded_all (spans_after unit None rows) addresses old
 
   pub so_far_done : (bytes : List ℕ) → length bytes ≡ 0 → is_some s.low ≡ false → NotedSoFar p files lengths total unit addresses old s before bytes found → AllNoted
   so_far_done [] none low so_far = record {
@@ -293,7 +293,7 @@ module _ (p : Parameters) (files : FileNumbers) (lengths : List ℕ) (total : Ro
 
   pub step_on : (now : List (Option SourceLine)) (next : State) (last : Option Row) → changing ≡ apply p op s → added ≡ row_added op changing
       → next ≡ next_state p op changing → last ≡ option_or added before → 0 < length bytes → operation_at p.opcode_base lengths bytes ≡ Ok (op, rest)
-      → file_check files added ≡ Ok tt → now ≡ noted_all (spans_after unit before (in_front added [])) addresses found
+      → file_check files added ≡ Ok tt → now ≡ recorded_all (spans_after unit before (in_front added [])) addresses found
       → NotedSoFar p files lengths total unit addresses old s before bytes found
       → NotedSoFar p files lengths total unit addresses old next last rest now
   step_on now next last c a n b lt h l w so_far =
@@ -303,17 +303,17 @@ module _ (p : Parameters) (files : FileNumbers) (lengths : List ℕ) (total : Ro
       subst (λ (x : State). NotedSoFar p files lengths total unit addresses old x last rest now) (sym next_is)
       (subst (λ (x : Option Row). NotedSoFar p files lengths total unit addresses old (next_state p op (apply p op s)) x rest now) (sym last_is)
       (so_far_on p files lengths total unit addresses old s before found bytes rest op now lt h (sym (ap (file_check files) added_is) ∙ l)
-      (w ∙ ap (λ x. noted_all (spans_after unit before (in_front x [])) addresses found) added_is) so_far))
+      (w ∙ ap (λ x. recorded_all (spans_after unit before (in_front x [])) addresses found) added_is) so_far))
 
 -- what the function ensures of what it found
 abbrev pub NotedIfOk : Rows → ℕ → List ℕ → List (Option SourceLine) → List (Option SourceLine) → Type 0
-NotedIfOk total unit addresses old now = IfOk total (λ rows. now ≡ noted_all (spans_after unit None rows) addresses old)
+NotedIfOk total unit addresses old now = IfOk total (λ rows. now ≡ recorded_all (spans_after unit None rows) addresses old)
 
 pub noted_if_err : (total : Rows) (unit : ℕ) (addresses : List ℕ) (old now : List (Option SourceLine)) (e : UnitError) → total ≡ Err e → NotedIfOk total unit addresses old now
 noted_if_err total unit addresses old now e h = subst (λ (r : Rows). NotedIfOk r unit addresses old now) (sym h) tt
 
 pub noted_if_ok : (total : Rows) (unit : ℕ) (addresses : List ℕ) (old now : List (Option SourceLine)) (rows : List Row) → total ≡ Ok rows
-    → now ≡ noted_all (spans_after unit None rows) addresses old → NotedIfOk total unit addresses old now
+    → now ≡ recorded_all (spans_after unit None rows) addresses old → NotedIfOk total unit addresses old now
 noted_if_ok total unit addresses old now rows h n = subst (λ (r : Rows). NotedIfOk r unit addresses old now) (sym h) n
 
 rest_shorter : (n : ℕ) (r : Read Operation) (op : Operation) (rest : List ℕ) → Within n r → r ≡ Ok (op, rest) → length rest ≤ n

@@ -6,7 +6,7 @@ use Rattle.std.proofs.lemmas.Bool.Decides.{nat_tests}
 use Rattle.rv_lines.specs.declared.span.SourceLine.{SourceLine}
 use Rattle.rv_lines.specs.declared.span.Span.{Span}
 use Rattle.rv_lines.specs.Entries.{Strings}
-use Rattle.rv_lines.specs.Lines.{covers, chosen, source_at, with_line, line_at, all_spans, units_of, IsSourceOf}
+use Rattle.rv_lines.specs.Lines.{covers, chosen, source_at, unless_line_0, line_at, all_spans, units_of, IsSourceOf}
 use Rattle.rv_lines.proofs.Choosing.{any_above, is_top, lower_any, false_or}
 
 abbrev some : {X : Type 0} → X → Option X
@@ -35,7 +35,7 @@ record FoundAt (p : Span → Bool) (spans : List Span) (s : Span) : Type 0 where
   here : p s ≡ true
   front : List Span
   back : List Span
-  place : spans ≡ front ++ s ∷ back
+  split : spans ≡ front ++ s ∷ back
   before : list_any p front ≡ false
 
 found_at : (p : Span → Bool) (spans : List Span) (s : Span) → find p spans ≡ Some s → FoundAt p spans s
@@ -45,14 +45,14 @@ found_at p (x ∷ spans) s h = elim (p x) as (λ b. p x ≡ b → cond b (Some x
     here = subst (λ y. p y ≡ true) same e;
     front = [];
     back = spans;
-    place = ap (λ y. y ∷ spans) same;
+    split = ap (λ y. y ∷ spans) same;
     before = refl;
   })
   | false ↦ λ e k. (let r = found_at p spans s k in record {
     here = r.here;
     front = x ∷ r.front;
     back = r.back;
-    place = ap (λ ys. x ∷ ys) r.place;
+    split = ap (λ ys. x ∷ ys) r.split;
     before = false_or (p x) (list_any p r.front) e ∙ r.before;
   })
 ] refl h
@@ -91,12 +91,12 @@ of_chosen spans a s h =
       highest = top;
       front = r.front;
       back = r.back;
-      place = r.place;
+      split = r.split;
       first = none_as_high all s r.front top r.before;
     }
 
 of_source : (spans : List Span) (a : ℕ) (source : SourceLine) (o : Option Span) → chosen (filter (covers a) spans) ≡ o
-    → option_and_then with_line (option_map (λ s. s.source) o) ≡ Some source → IsSourceOf spans a source
+    → option_and_then unless_line_0 (option_map (λ s. s.source) o) ≡ Some source → IsSourceOf spans a source
 of_source spans a source None e h = absurd cc
 of_source spans a source (Some s) e h = elim (s.source.line == 0) as (λ b. cond b None (Some s.source) ≡ Some source → IsSourceOf spans a source) [
   | true ↦ λ k. absurd cc

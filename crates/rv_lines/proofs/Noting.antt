@@ -6,7 +6,7 @@ use Rattle.std.proofs.lemmas.List.{ext_get_or, get_or-set_same, get_or-set_other
 use Rattle.rv_lines.specs.declared.span.SourceLine.{SourceLine}
 use Rattle.rv_lines.specs.declared.span.Span.{Span}
 use Rattle.rv_lines.specs.Lines.{covers, source_at}
-use Rattle.rv_lines.specs.SearchInside.{higher, note_span_at, noted_each, noted_all, IsRising}
+use Rattle.rv_lines.specs.SearchInside.{higher, recorded_at, recorded_each, recorded_all, IsRising}
 use Rattle.rv_lines.proofs.Choosing.{noted_by, noted_source}
 
 abbrev pub Found : Type 0
@@ -14,14 +14,14 @@ Found = List (Option SourceLine)
 
 -- ---- one span, address after address
 
-pub length_noted : (s : Span) (addresses : List ℕ) (found : Found) → length found ≡ length addresses → length (noted_each s addresses found) ≡ length found
+pub length_noted : (s : Span) (addresses : List ℕ) (found : Found) → length found ≡ length addresses → length (recorded_each s addresses found) ≡ length found
 length_noted s [] [] e = refl
 length_noted s [] (f ∷ found) e = absurd (omega arith)
 length_noted s (a ∷ addresses) [] e = refl
 length_noted s (a ∷ addresses) (f ∷ found) e = ap suc (length_noted s addresses found (omega arith))
 
 pub get_noted : (s : Span) (addresses : List ℕ) (found : Found) (k : ℕ) → k < length addresses → length found ≡ length addresses
-    → get_or (noted_each s addresses found) k None ≡ note_span_at s (get_or addresses k 0) (get_or found k None)
+    → get_or (recorded_each s addresses found) k None ≡ recorded_at s (get_or addresses k 0) (get_or found k None)
 get_noted s [] found k lt e = absurd (omega arith)
 get_noted s (a ∷ addresses) [] k lt e = absurd (omega arith)
 get_noted s (a ∷ addresses) (f ∷ found) zero lt e = refl
@@ -30,10 +30,10 @@ get_noted s (a ∷ addresses) (f ∷ found) (suc k) lt e = get_noted s addresses
 -- the span is noted for the first k addresses, and for no other
 pub record IsNotedTo (s : Span) (addresses : List ℕ) (old new : Found) (k : ℕ) : Type 0 where
   pub len : length new ≡ length old
-  pub before : (j : ℕ) → j < k → get_or new j None ≡ note_span_at s (get_or addresses j 0) (get_or old j None)
+  pub before : (j : ℕ) → j < k → get_or new j None ≡ recorded_at s (get_or addresses j 0) (get_or old j None)
   pub after : (j : ℕ) → k ≤ j → get_or new j None ≡ get_or old j None
 
-not_covered : (s : Span) (a : ℕ) (found : Option SourceLine) → covers a s ≡ false → note_span_at s a found ≡ found
+not_covered : (s : Span) (a : ℕ) (found : Option SourceLine) → covers a s ≡ false → recorded_at s a found ≡ found
 not_covered s a found e = ap (λ b. cond b (higher s.source found) found) e
 
 and_false : (b : Bool) → (b && false) ≡ false
@@ -56,7 +56,7 @@ noted_start s addresses found k p = record {
   after = λ j le. refl;
 }
 
-covered : (s : Span) (a : ℕ) (found : Option SourceLine) → s.from ≤ a → a < s.to → higher s.source found ≡ note_span_at s a found
+covered : (s : Span) (a : ℕ) (found : Option SourceLine) → s.from ≤ a → a < s.to → higher s.source found ≡ recorded_at s a found
 covered s a found le lt = sym (ap (λ b. cond (b && nat_lt a s.to) (higher s.source found) found) (le-leb s.from a le)
     ∙ ap (λ b. cond b (higher s.source found) found) (lt-ltb a s.to lt))
 
@@ -66,11 +66,11 @@ pub noted_on : (s : Span) (addresses : List ℕ) (old new : Found) (k : ℕ) →
 noted_on s addresses old new k lt le to h =
     let len = h.len in
     let there : k < length new = omega arith in
-    let here : higher s.source (get_or new k None) ≡ note_span_at s (get_or addresses k 0) (get_or old k None) =
+    let here : higher s.source (get_or new k None) ≡ recorded_at s (get_or addresses k 0) (get_or old k None) =
     ap (higher s.source) (h.after k (omega arith)) ∙ covered s (get_or addresses k 0) (get_or old k None) le to in
     record {
       len = length-set new k (higher s.source (get_or new k None)) ∙ len;
-      before = below_more (λ j. get_or (set new k (higher s.source (get_or new k None))) j None ≡ note_span_at s (get_or addresses j 0) (get_or old j None)) k
+      before = below_more (λ j. get_or (set new k (higher s.source (get_or new k None))) j None ≡ recorded_at s (get_or addresses j 0) (get_or old j None)) k
           (λ j l. let ne : j ≢ k = omega arith in get_or-set_other new k j (higher s.source (get_or new k None)) None ne ∙ h.before j l)
           (get_or-set_same new k (higher s.source (get_or new k None)) None there ∙ here);
       after = λ j l. (let ne : j ≢ k = omega arith in get_or-set_other new k j (higher s.source (get_or new k None)) None ne ∙ h.after j (omega arith));
@@ -78,13 +78,13 @@ noted_on s addresses old new k lt le to h =
 
 -- from an address on that is not below the end of the span, nothing changes
 pub noted_done : (s : Span) (addresses : List ℕ) (old new : Found) (k : ℕ) → length old ≡ length addresses → IsRising addresses
-    → (k < length addresses → s.to ≤ get_or addresses k 0) → IsNotedTo s addresses old new k → new ≡ noted_each s addresses old
+    → (k < length addresses → s.to ≤ get_or addresses k 0) → IsNotedTo s addresses old new k → new ≡ recorded_each s addresses old
 noted_done s addresses old new k same rising past h =
     let len = h.len in
     let sized = length_noted s addresses old same in
-    ext_get_or None new (noted_each s addresses old) (omega arith) (λ j l.
+    ext_get_or None new (recorded_each s addresses old) (omega arith) (λ j l.
     (let there : j < length addresses = omega arith in
-    elim (cases_lt j k) as (λ _. get_or new j None ≡ get_or (noted_each s addresses old) j None) [
+    elim (cases_lt j k) as (λ _. get_or new j None ≡ get_or (recorded_each s addresses old) j None) [
       | inl lt ↦ h.before j lt ∙ sym (get_noted s addresses old j there same)
       | inr le ↦ (let r = rising k j 0 le there in let q = past (omega arith) in
           h.after j le ∙ sym (not_covered s (get_or addresses j 0) (get_or old j None) (over s (get_or addresses j 0) (omega arith))) ∙ sym (get_noted s addresses old j there same))
@@ -92,25 +92,25 @@ noted_done s addresses old new k same rising past h =
 
 -- ---- all spans
 
-pub noted_all_append : (xs ys : List Span) (addresses : List ℕ) (found : Found) → noted_all (xs ++ ys) addresses found ≡ noted_all ys addresses (noted_all xs addresses found)
+pub noted_all_append : (xs ys : List Span) (addresses : List ℕ) (found : Found) → recorded_all (xs ++ ys) addresses found ≡ recorded_all ys addresses (recorded_all xs addresses found)
 noted_all_append [] ys addresses found = refl
-noted_all_append (x ∷ xs) ys addresses found = noted_all_append xs ys addresses (noted_each x addresses found)
+noted_all_append (x ∷ xs) ys addresses found = noted_all_append xs ys addresses (recorded_each x addresses found)
 
-noted_nil : (spans : List Span) → noted_all spans [] [] ≡ []
+noted_nil : (spans : List Span) → recorded_all spans [] [] ≡ []
 noted_nil [] = refl
 noted_nil (s ∷ spans) = noted_nil spans
 
 noted_cons : (spans : List Span) (a : ℕ) (addresses : List ℕ) (f : Option SourceLine) (found : Found)
-    → noted_all spans (a ∷ addresses) (f ∷ found) ≡ noted_by a f spans ∷ noted_all spans addresses found
+    → recorded_all spans (a ∷ addresses) (f ∷ found) ≡ noted_by a f spans ∷ recorded_all spans addresses found
 noted_cons [] a addresses f found = refl
-noted_cons (s ∷ spans) a addresses f found = noted_cons spans a addresses (note_span_at s a f) (noted_each s addresses found)
+noted_cons (s ∷ spans) a addresses f found = noted_cons spans a addresses (recorded_at s a f) (recorded_each s addresses found)
 
 abbrev pub nothing : ℕ → Option SourceLine
 nothing a = None
 
 -- from nothing, what is found in the end is the source at each address
-pub noted_sources : (spans : List Span) (addresses : List ℕ) → noted_all spans addresses (map nothing addresses) ≡ map (source_at spans) addresses
+pub noted_sources : (spans : List Span) (addresses : List ℕ) → recorded_all spans addresses (map nothing addresses) ≡ map (source_at spans) addresses
 noted_sources spans [] = noted_nil spans
 noted_sources spans (a ∷ addresses) = noted_cons spans a addresses None (map nothing addresses)
-    ∙ ap (λ x. x ∷ noted_all spans addresses (map nothing addresses)) (noted_source spans a)
+    ∙ ap (λ x. x ∷ recorded_all spans addresses (map nothing addresses)) (noted_source spans a)
     ∙ ap (λ xs. source_at spans a ∷ xs) (noted_sources spans addresses)

@@ -13,7 +13,7 @@ use Rattle.rv_lines.specs.declared.search.RejectedUnits.{RejectedUnits}
 use Rattle.rv_lines.specs.Entries.{Strings}
 use Rattle.rv_lines.specs.Units.{UnitRead, unit_length, unit_size, rows_at, units}
 use Rattle.rv_lines.specs.Lines.{spans_of_rows, spans_of, all_spans, source_at, line_at, units_of, is_rejected, error_or, first_error, rejected_units}
-use Rattle.rv_lines.specs.SearchInside.{noted_all, drop_line_0, clear, checked_only, rejected_after}
+use Rattle.rv_lines.specs.SearchInside.{recorded_all, drop_line_0, clear, checked_only, rejected_after}
 use Rattle.rv_lines.proofs.Noting.{Found, nothing, noted_all_append, noted_sources}
 
 -- ---- one unit more
@@ -133,7 +133,7 @@ pub record FoundSoFar (strings : Strings) (section addresses : List ℕ) (old : 
   pub front : List UnitRead
   pub few : length front ≤ offset
   pub is : units_of strings section ≡ front ++ units_left most strings section offset
-  pub noted : found ≡ noted_all (all_spans front) addresses old
+  pub noted : found ≡ recorded_all (all_spans front) addresses old
   pub counts : rejected ≡ rejected_units front
 
 pub found_start : (strings : Strings) (section addresses : List ℕ) (old : Found) → FoundSoFar strings section addresses old 0 old (record { units = 0; rejected = 0; first = None })
@@ -157,7 +157,7 @@ module _ (strings : Strings) (section addresses : List ℕ) (old : Found) (offse
   pub found_on : (here : ℕ) (read : Result (Unit {0}) UnitError) (now : Found) → offset < length section
       → here ≡ min (unit_size (drop offset section)) (length (drop offset section))
       → read ≡ checked_only (rows_at strings (drop offset section))
-      → now ≡ noted_all (spans_of_rows offset (rows_at strings (drop offset section))) addresses found
+      → now ≡ recorded_all (spans_of_rows offset (rows_at strings (drop offset section))) addresses found
       → FoundSoFar strings section addresses old (offset + here) now (rejected_after rejected offset read)
   found_on here read now lt h r n =
       let enough = so_far.enough in
@@ -177,8 +177,8 @@ module _ (strings : Strings) (section addresses : List ℕ) (old : Found) (offse
         is = so_far.is ∙ ap (λ k. front ++ units_left k strings section offset) m.1
             ∙ ap (λ us. front ++ us) (left_one m.0 strings section offset here lt h)
             ∙ sym (append_assoc front (u ∷ []) (units_left m.0 strings section (offset + here)));
-        noted = n ∙ ap (noted_all (spans_of u) addresses) so_far.noted
-            ∙ sym (ap (λ spans. noted_all spans addresses old) (more_spans front u) ∙ noted_all_append (all_spans front) (spans_of u) addresses old);
+        noted = n ∙ ap (recorded_all (spans_of u) addresses) so_far.noted
+            ∙ sym (ap (λ spans. recorded_all spans addresses old) (more_spans front u) ∙ noted_all_append (all_spans front) (spans_of u) addresses old);
         counts = ap (λ c. rejected_after c offset read) so_far.counts ∙ ap (rejected_after (rejected_units front) offset) r ∙ rejected_more front u;
       }
 
@@ -197,8 +197,8 @@ module _ (strings : Strings) (section addresses : List ℕ) (old : Found) (offse
   pub found_counts : length section ≤ offset → rejected ≡ rejected_units (units_of strings section)
   found_counts past = so_far.counts ∙ ap rejected_units (sym (all_read past))
 
-  pub found_all : length section ≤ offset → found ≡ noted_all (all_spans (units_of strings section)) addresses old
-  found_all past = so_far.noted ∙ ap (λ us. noted_all (all_spans us) addresses old) (sym (all_read past))
+  pub found_all : length section ≤ offset → found ≡ recorded_all (all_spans (units_of strings section)) addresses old
+  found_all past = so_far.noted ∙ ap (λ us. recorded_all (all_spans us) addresses old) (sym (all_read past))
 
 forgotten_nothing : (addresses : List ℕ) (found : Found) → length found ≡ length addresses → map clear found ≡ map nothing addresses
 forgotten_nothing [] [] e = refl
@@ -213,9 +213,9 @@ shown_lines strings section (a ∷ addresses) = ap (λ x. drop_line_0 (source_at
 
 -- what is shown in the end is the line of each address
 pub lines_found : (strings : Strings) (section addresses : List ℕ) (first old found : Found) → length first ≡ length addresses → old ≡ map clear first
-    → found ≡ noted_all (all_spans (units_of strings section)) addresses old → map drop_line_0 found ≡ map (line_at strings section) addresses
+    → found ≡ recorded_all (all_spans (units_of strings section)) addresses old → map drop_line_0 found ≡ map (line_at strings section) addresses
 lines_found strings section addresses first old found e f n =
-    ap (map drop_line_0) (n ∙ ap (noted_all (all_spans (units_of strings section)) addresses) (f ∙ forgotten_nothing addresses first e)
+    ap (map drop_line_0) (n ∙ ap (recorded_all (all_spans (units_of strings section)) addresses) (f ∙ forgotten_nothing addresses first e)
     ∙ noted_sources (all_spans (units_of strings section)) addresses)
     ∙ shown_lines strings section addresses
 

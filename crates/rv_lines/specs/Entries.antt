@@ -37,13 +37,13 @@ numbers_at true bytes = do
 
 -- a list of directories, or of files if `of_files` is true, which ends with an empty name; the error `HeaderCutOff` if it has no end;
 -- `most` is a bound on its length, such as the number of bytes
-unfoldable pub list_at : ℕ → Bool → List ℕ → Read (List Entry)
-list_at zero of_files bytes = Err HeaderCutOff
-list_at (suc most) of_files bytes = do
+unfoldable pub legacy_list_at : ℕ → Bool → List ℕ → Read (List Entry)
+legacy_list_at zero of_files bytes = Err HeaderCutOff
+legacy_list_at (suc most) of_files bytes = do
   name ← string_at HeaderCutOff bytes
   if length name.0 == 0 then Ok ([], name.1) else (do
     directory ← numbers_at of_files name.1
-    others ← list_at most of_files directory.1
+    others ← legacy_list_at most of_files directory.1
     Ok (record { name = name.0; directory = directory.0 } ∷ others.0, others.1))
 
 -- ---- DWARF 5: directory_entry_format, directories, file_name_entry_format, file_names
@@ -166,8 +166,8 @@ is_path field = field.content == 1
 
 -- a list of directories or files in the form of DWARF 5: the entry format, the number of entries, and the entries; the format must have a
 -- path unless there are no entries
-unfoldable pub table_at : Strings → List ℕ → Read (List Entry)
-table_at strings bytes = do
+unfoldable pub dwarf5_list_at : Strings → List ℕ → Read (List Entry)
+dwarf5_list_at strings bytes = do
   count ← byte_at HeaderCutOff bytes
   fields ← fields_at count.0 count.1
   entries ← number_at HeaderCutOff fields.1

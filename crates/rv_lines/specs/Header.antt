@@ -6,7 +6,7 @@ use Rattle.rv_lines.specs.declared.error.UnitError.TheVariants as unit
 use Rattle.rv_lines.specs.declared.header.FileNumbers.{FileNumbers}
 use Rattle.rv_lines.specs.declared.header.Parameters.{Parameters}
 use Rattle.rv_lines.specs.Reading.{◌>>=◌, Read, byte_at, fixed_at}
-use Rattle.rv_lines.specs.Entries.{Strings, Entry, list_at, table_at}
+use Rattle.rv_lines.specs.Entries.{Strings, Entry, legacy_list_at, dwarf5_list_at}
 
 -- a header: the parameters of the program, standard_opcode_lengths, the number of the first file and directory (1 in DWARF 2 to 4, 0 in
 -- DWARF 5), and the directories and files
@@ -46,8 +46,8 @@ abbrev pub sign_extended : ℕ → ℕ
 sign_extended b = if nat_lt b 128 then b else b + (2 ^ 32 - 2 ^ 8)
 
 -- the bytes after maximum_operations_per_instruction, which must be 1; DWARF 2 and 3 do not have it
-unfoldable pub operations_check : ℕ → List ℕ → Result (List ℕ) UnitError
-operations_check version bytes = if nat_lt version 4 then Ok bytes else (byte_at unit.HeaderCutOff bytes >>= λ operations.
+unfoldable pub bytes_after_operations : ℕ → List ℕ → Result (List ℕ) UnitError
+bytes_after_operations version bytes = if nat_lt version 4 then Ok bytes else (byte_at unit.HeaderCutOff bytes >>= λ operations.
     if operations.0 == 1 then Ok operations.1 else Err unit.Operations)
 
 -- standard_opcode_lengths: one byte for each opcode from 1 up to, but not including, `opcode_base`; the first 12 must be the standard's
@@ -60,7 +60,7 @@ lengths_at opcode_base bytes = let lengths = take (opcode_base - 1) bytes in
 unfoldable pub parameters_at : ℕ → List ℕ → Read Parameters
 parameters_at version bytes = do
   min_length ← byte_at unit.HeaderCutOff bytes
-  rest ← operations_check version min_length.1
+  rest ← bytes_after_operations version min_length.1
   is_stmt ← byte_at unit.HeaderCutOff rest
   line_base ← byte_at unit.HeaderCutOff is_stmt.1
   line_range ← byte_at unit.HeaderCutOff line_base.1
@@ -79,7 +79,7 @@ parameters_at version bytes = do
 
 -- a list of directories, or of files if `of_files` is true, in the form of the version
 unfoldable pub entries_of_version : Strings → ℕ → Bool → List ℕ → Read (List Entry)
-entries_of_version strings version of_files bytes = if version == 5 then table_at strings bytes else list_at (length bytes) of_files bytes
+entries_of_version strings version of_files bytes = if version == 5 then dwarf5_list_at strings bytes else legacy_list_at (length bytes) of_files bytes
 
 -- the fields of a header after header_length, or the first error in them
 unfoldable pub fields_of_header : Strings → ℕ → List ℕ → Result Header UnitError
@@ -97,8 +97,8 @@ fields_of_header strings version bytes = do
   })
 
 -- the bytes after the fields address_size, which must be 4, and segment_selector_size, which must be 0; DWARF 2 to 4 have neither field
-unfoldable pub addresses_check : ℕ → List ℕ → Result (List ℕ) UnitError
-addresses_check version bytes = if version == 5 then (do
+unfoldable pub bytes_after_address_size : ℕ → List ℕ → Result (List ℕ) UnitError
+bytes_after_address_size version bytes = if version == 5 then (do
   size ← byte_at unit.HeaderCutOff bytes
   if size.0 == 4 then (byte_at unit.HeaderCutOff size.1 >>= λ selector.
       if selector.0 == 0 then Ok selector.1 else Err unit.AddressSize) else Err unit.AddressSize)
@@ -113,7 +113,7 @@ version_at bytes = fixed_at unit.HeaderCutOff 2 bytes >>= λ version.
 unfoldable pub frame_at : List ℕ → Read (ℕ × List ℕ)
 frame_at bytes = do
   version ← version_at bytes
-  rest ← addresses_check version.0 version.1
+  rest ← bytes_after_address_size version.0 version.1
   size ← fixed_at unit.HeaderCutOff 4 rest
   if nat_lt (length size.1) size.0 then Err unit.HeaderCutOff
       else Ok ((version.0, take size.0 size.1), drop size.0 size.1)

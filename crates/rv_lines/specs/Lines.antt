@@ -20,7 +20,7 @@ span unit row next = record {
 -- whether a row covers no address: it ends its sequence, or its address is below that of the first row of its sequence, as in the sequence
 -- of code that a linker dropped and moved to the address 2^32 - 1
 abbrev pub covers_nothing : Row → Bool
-covers_nothing row = row.ends || nat_lt row.address row.low
+covers_nothing row = row.ends_sequence || nat_lt row.address row.low
 
 -- the spans of rows, in order, without the rows that cover nothing; the row `before`, if there is one, comes before them, and the last row
 -- has no span
@@ -56,8 +56,8 @@ unfoldable pub source_at : List Span → ℕ → Option SourceLine
 source_at spans a = option_map (λ s. s.source) (chosen (filter (covers a) spans))
 
 -- the source line, or `None` if its line is 0, which means that the line is not known
-abbrev pub with_line : SourceLine → Option SourceLine
-with_line source = if source.line == 0 then None else Some source
+abbrev pub unless_line_0 : SourceLine → Option SourceLine
+unless_line_0 source = if source.line == 0 then None else Some source
 
 -- the units of `.debug_line`, in order
 abbrev pub units_of : Strings → List ℕ → List UnitRead
@@ -65,7 +65,7 @@ units_of strings section = units (length section) strings 0 section
 
 -- the source line of an address, or `None` if it has none
 unfoldable pub line_at : Strings → List ℕ → ℕ → Option SourceLine
-line_at strings section a = option_and_then with_line (source_at (all_spans (units_of strings section)) a)
+line_at strings section a = option_and_then unless_line_0 (source_at (all_spans (units_of strings section)) a)
 
 -- `source` is the source line of a span that covers the address `a`; no span that covers this address has a greater `low`, and none that
 -- covers it and comes before the span has an equal one
@@ -76,7 +76,7 @@ pub record IsSourceOf (spans : List Span) (a : ℕ) (source : SourceLine) : Type
   pub highest : list_any (λ t. nat_lt source.low t.source.low) (filter (covers a) spans) ≡ false
   pub front : List Span
   pub back : List Span
-  pub place : filter (covers a) spans ≡ front ++ span ∷ back
+  pub split : filter (covers a) spans ≡ front ++ span ∷ back
   pub first : list_any (λ t. nat_le source.low t.source.low) front ≡ false
 
 -- ---- the units that are rejected

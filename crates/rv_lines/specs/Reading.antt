@@ -15,9 +15,9 @@ abbrev pub ◌>>=◌ : {A B : Type 0} → Result A UnitError → (A → Result B
 (Err e) >>= f = Err e
 
 -- the definition reads what the code returns: the value, seen through `view`, or the error
-abbrev pub Gives : {X Y : Type 0} → (X → Y) → Result X UnitError → Result Y UnitError → Type 0
-Gives view (Ok x) read = read ≡ Ok (view x)
-Gives view (Err e) read = read ≡ Err e
+abbrev pub AgreesWith : {X Y : Type 0} → (X → Y) → Result X UnitError → Result Y UnitError → Type 0
+AgreesWith view (Ok x) read = read ≡ Ok (view x)
+AgreesWith view (Err e) read = read ≡ Err e
 
 -- the first byte, or the error `cut` if there is none
 abbrev pub byte_at : UnitError → List ℕ → Read ℕ

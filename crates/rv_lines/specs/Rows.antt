@@ -57,7 +57,7 @@ low_of s = unwrap_or s.low s.address
 
 -- the state as a row; `ends` says whether the row ends its sequence
 abbrev pub row_of : Bool → State → Row
-row_of ends s = record { address = s.address; file = s.file; line = s.line; is_stmt = s.is_stmt; ends = ends; low = low_of s }
+row_of ends s = record { address = s.address; file = s.file; line = s.line; is_stmt = s.is_stmt; ends_sequence = ends; low = low_of s }
 
 -- the row that an operation adds, or `None` if it adds none; `s` is the state after `apply`
 abbrev pub row_added : Operation → State → Option Row
@@ -92,12 +92,12 @@ has_file files file = nat_le files.first file && nat_lt (file - files.first) fil
 
 -- whether the unit does not have the file of a row; the end of a sequence needs no file
 abbrev pub lacks_file : FileNumbers → Row → Bool
-lacks_file files row = not row.ends && not (has_file files row.file)
+lacks_file files row = not row.ends_sequence && not (has_file files row.file)
 
--- whether rows end in the middle of a sequence; `begun` says whether they begin in one
+-- whether rows end in the middle of a sequence; `in_sequence` says whether they begin in one
 abbrev pub is_open : Bool → List Row → Bool
-is_open begun [] = begun
-is_open begun (row ∷ rows) = is_open (not row.ends) rows
+is_open in_sequence [] = in_sequence
+is_open in_sequence (row ∷ rows) = is_open (not row.ends_sequence) rows
 
 -- the rows, or the error `OpenSequence` if they end in the middle of a sequence
 abbrev pub require_closed : List Row → Result (List Row) UnitError

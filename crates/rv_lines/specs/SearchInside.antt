@@ -10,36 +10,36 @@ use Rattle.rv_lines.specs.declared.program.Program as declared
 use Rattle.rv_lines.specs.declared.rows.Row.{Row}
 use Rattle.rv_lines.specs.declared.span.SourceLine.{SourceLine}
 use Rattle.rv_lines.specs.declared.span.Span.{Span}
-use Rattle.rv_lines.specs.Lines.{covers, with_line}
+use Rattle.rv_lines.specs.Lines.{covers, unless_line_0}
 use Rattle.rv_lines.specs.Reading.{◌>>=◌}
 use Rattle.rv_lines.specs.Rows.{lacks_file, program_rows}
 
 -- whether the source line `source` replaces `found`: there is no source line in `found`, or its `low` is smaller
-abbrev pub is_higher : SourceLine → Option SourceLine → Bool
-is_higher source found = option_map_or (λ f. nat_lt f.low source.low) found true
+abbrev pub is_preferred : SourceLine → Option SourceLine → Bool
+is_preferred source found = option_map_or (λ f. nat_lt f.low source.low) found true
 
 -- the source line if it replaces `found`, and otherwise `found`
 abbrev pub higher : SourceLine → Option SourceLine → Option SourceLine
-higher source found = if is_higher source found then Some source else found
+higher source found = if is_preferred source found then Some source else found
 
 -- the source line of the address `a` after one more span: that of the span if it covers `a` and has a greater `low`, and otherwise `found`
-abbrev pub note_span_at : Span → ℕ → Option SourceLine → Option SourceLine
-note_span_at s a found = if covers a s then higher s.source found else found
+abbrev pub recorded_at : Span → ℕ → Option SourceLine → Option SourceLine
+recorded_at s a found = if covers a s then higher s.source found else found
 
 -- the list `found`, which has the source line of each address, after this span is recorded
-abbrev pub noted_each : Span → List ℕ → List (Option SourceLine) → List (Option SourceLine)
-noted_each s [] found = []
-noted_each s (a ∷ addresses) [] = []
-noted_each s (a ∷ addresses) (f ∷ found) = note_span_at s a f ∷ noted_each s addresses found
+abbrev pub recorded_each : Span → List ℕ → List (Option SourceLine) → List (Option SourceLine)
+recorded_each s [] found = []
+recorded_each s (a ∷ addresses) [] = []
+recorded_each s (a ∷ addresses) (f ∷ found) = recorded_at s a f ∷ recorded_each s addresses found
 
 -- the list `found`, which has the source line of each address, after these spans are recorded in order
-abbrev pub noted_all : List Span → List ℕ → List (Option SourceLine) → List (Option SourceLine)
-noted_all [] addresses found = found
-noted_all (s ∷ spans) addresses found = noted_all spans addresses (noted_each s addresses found)
+abbrev pub recorded_all : List Span → List ℕ → List (Option SourceLine) → List (Option SourceLine)
+recorded_all [] addresses found = found
+recorded_all (s ∷ spans) addresses found = recorded_all spans addresses (recorded_each s addresses found)
 
 -- the source line, or `None` if its line is 0
 abbrev pub drop_line_0 : Option SourceLine → Option SourceLine
-drop_line_0 found = option_and_then with_line found
+drop_line_0 found = option_and_then unless_line_0 found
 
 -- `None`, whatever the source line is
 abbrev pub clear : Option SourceLine → Option SourceLine

@@ -2,14 +2,14 @@
 //! of each are counted, and one of them is picked. A function that reads also returns the bytes after what it has read, or the error
 //! `HeaderCutOff` if the bytes end too early.
 ghost use Rattle.std.specs.Prelude.{◌≡◌, ◌||◌, if◌then◌else◌, Some, length, option_map, is_ok, true, false};
-ghost use Rattle.rv_lines.specs.Reading.{Gives};
-ghost use Rattle.rv_lines.specs.Entries.{empty_entry, is_path, numbers_at, list_at, fields_at, with_field, entry_at, entries_at, table_at};
+ghost use Rattle.rv_lines.specs.Reading.{AgreesWith};
+ghost use Rattle.rv_lines.specs.Entries.{empty_entry, is_path, numbers_at, legacy_list_at, fields_at, with_field, entry_at, entries_at, dwarf5_list_at};
 ghost use Rattle.rv_lines.specs.EntriesInside.{is_index, view_entry, view_entries, view_strings, summarised, path_and_rest, fields_of};
 
 use crate::error::UnitError;
 use crate::forms::{
-    DW_LNCT_DIRECTORY_INDEX, DW_LNCT_PATH, Field, field_at, number_of_form, skip_form,
-    string_of_form,
+    DW_LNCT_DIRECTORY_INDEX, DW_LNCT_PATH, Field, field_at, form_number_at, form_string_at,
+    skip_form,
 };
 use crate::numbers::{number_at, skip_number};
 use crate::reading::{byte_at, string_at};
@@ -38,13 +38,13 @@ pub(crate) struct Format<'a> {
 
 /// Reads a list in the form of DWARF 2 to 4, which ends with an empty name: a list of files if `of_files` is true, and otherwise of
 /// directories. Returns the number of entries, and the entry at an index, if the list has it.
-pub(crate) fn list_at<'a>(
+pub(crate) fn legacy_list_at<'a>(
     of_files: bool,
     index: Option<u64>,
     bytes: &'a [u8],
 ) -> Result<(Entries<'a>, &'a [u8]), UnitError>
-    ensures { Gives (λ x. (view_entries x.0, x.1.now)) result
-        (summarised index (list_at (length bytes.now) of_files bytes.now)) }
+    ensures { AgreesWith (λ x. (view_entries x.0, x.1.now)) result
+        (summarised index (legacy_list_at (length bytes.now) of_files bytes.now)) }
 {
     let mut count = 0;
     let mut found = None;
@@ -78,7 +78,7 @@ fn pick<'a>(
 // which are skipped. After a directory's name there are none, and the result is 0.
 #[tactic(auto, unfolding(crate::specs::Entries::numbers_at))]
 fn numbers_at(of_files: bool, bytes: &[u8]) -> Result<(u64, &[u8]), UnitError>
-    ensures { Gives (λ x. (x.0, x.1.now)) result (numbers_at of_files bytes.now) }
+    ensures { AgreesWith (λ x. (x.0, x.1.now)) result (numbers_at of_files bytes.now) }
 {
     if !of_files {
         return Ok((0, bytes));
@@ -92,14 +92,14 @@ fn numbers_at(of_files: bool, bytes: &[u8]) -> Result<(u64, &[u8]), UnitError>
 /// Reads a list of directories or files in the form of DWARF 5, which is the entry format, the number of entries and the entries. Returns
 /// the number of entries, and the entry at an index, if the list has it. The error is `EntryForm` if there are entries and none of their
 /// fields is a path.
-#[tactic(auto, unfolding(crate::specs::Entries::table_at))]
-pub(crate) fn table_at<'a>(
+#[tactic(auto, unfolding(crate::specs::Entries::dwarf5_list_at))]
+pub(crate) fn dwarf5_list_at<'a>(
     strings: &StringSections<'a>,
     index: Option<u64>,
     bytes: &'a [u8],
 ) -> Result<(Entries<'a>, &'a [u8]), UnitError>
-    ensures { Gives (λ x. (view_entries x.0, x.1.now)) result
-        (summarised index (table_at (view_strings strings.now) bytes.now)) }
+    ensures { AgreesWith (λ x. (view_entries x.0, x.1.now)) result
+        (summarised index (dwarf5_list_at (view_strings strings.now) bytes.now)) }
 {
     let (count, rest) = byte_at(UnitError::HeaderCutOff, bytes)?;
     let format = Format { count, bytes: rest };
@@ -114,7 +114,7 @@ pub(crate) fn table_at<'a>(
 // Checks the fields of an entry format, whose forms must be valid for their contents. Returns whether one of them is a path, and the bytes
 // after them.
 fn format_end<'a>(format: &Format<'a>) -> Result<(bool, &'a [u8]), UnitError>
-    ensures { Gives (λ x. (x.0, x.1.now)) result
+    ensures { AgreesWith (λ x. (x.0, x.1.now)) result
         (path_and_rest false (fields_at format.now.count format.now.bytes.now)) }
 {
     let mut has_path = false;
@@ -143,7 +143,7 @@ fn entries_at<'a>(
     bytes: &'a [u8],
 ) -> Result<(Entries<'a>, &'a [u8]), UnitError>
     requires { is_ok (fields_at format.now.count format.now.bytes.now) ≡ true }
-    ensures { Gives (λ x. (view_entries x.0, x.1.now)) result
+    ensures { AgreesWith (λ x. (view_entries x.0, x.1.now)) result
         (summarised index (entries_at (view_strings strings.now) (fields_of format.now) count bytes.now)) }
 {
     let mut found = None;
@@ -169,7 +169,7 @@ fn entry_at<'a>(
     bytes: &'a [u8],
 ) -> Result<(Entry<'a>, &'a [u8]), UnitError>
     requires { is_ok (fields_at format.now.count format.now.bytes.now) ≡ true }
-    ensures { Gives (λ x. (view_entry x.0, x.1.now)) result
+    ensures { AgreesWith (λ x. (view_entry x.0, x.1.now)) result
         (entry_at (view_strings strings.now) (fields_of format.now) empty_entry bytes.now) }
 {
     let mut entry = Entry {
@@ -196,12 +196,12 @@ fn with_field<'a>(
     entry: Entry<'a>,
     bytes: &'a [u8],
 ) -> Result<(Entry<'a>, &'a [u8]), UnitError>
-    ensures { Gives (λ x. (view_entry x.0, x.1.now)) result
+    ensures { AgreesWith (λ x. (view_entry x.0, x.1.now)) result
         (with_field (view_strings strings.now) field (view_entry entry.entry) bytes.now) }
 {
     match field.content {
         DW_LNCT_PATH => {
-            let (name, rest) = string_of_form(strings, field.form, bytes)?;
+            let (name, rest) = form_string_at(strings, field.form, bytes)?;
             Ok((
                 Entry {
                     name,
@@ -211,7 +211,7 @@ fn with_field<'a>(
             ))
         }
         DW_LNCT_DIRECTORY_INDEX => {
-            let (directory, rest) = number_of_form(field.form, bytes)?;
+            let (directory, rest) = form_number_at(field.form, bytes)?;
             Ok((
                 Entry {
                     name: entry.name,

@@ -1,7 +1,7 @@
 //! The fields of an entry and their forms (DWARF 5, sections 6.2.4.1 and 7.5.6). A function that reads also returns the bytes after what it
 //! has read, or the error `HeaderCutOff` if the bytes end too early.
 ghost use Rattle.std.specs.Prelude.{◌≡◌};
-ghost use Rattle.rv_lines.specs.Reading.{Gives};
+ghost use Rattle.rv_lines.specs.Reading.{AgreesWith};
 ghost use Rattle.rv_lines.specs.Entries.{is_string_form, size_of_form, is_number_form, is_known_form, is_valid_field, field_at, offset_string_at};
 ghost use Rattle.rv_lines.specs.Entries.{form_string_at, form_number_at, sized_number_at, skip_variable_form, skipped_size, skip_form};
 ghost use Rattle.rv_lines.specs.EntriesInside.{view_strings};
@@ -49,7 +49,7 @@ const DW_FORM_LINE_STRP: u32 = 0x1f;
 /// Reads one field of an entry format. The error is `EntryForm` if its form is not valid for its content.
 #[tactic(auto, unfolding(crate::specs::Entries::field_at))]
 pub(crate) fn field_at(bytes: &[u8]) -> Result<(Field, &[u8]), UnitError>
-    ensures { Gives (λ x. (x.0, x.1.now)) result (field_at bytes.now) }
+    ensures { AgreesWith (λ x. (x.0, x.1.now)) result (field_at bytes.now) }
 {
     let (content, rest) = number_at(UnitError::HeaderCutOff, bytes)?;
     let (form, rest) = number_at(UnitError::HeaderCutOff, rest)?;
@@ -111,12 +111,12 @@ fn size_of_form(form: u32) -> Option<u32>
 
 /// Reads a string of this form; the error is `EntryForm` if the form is not a string.
 #[tactic(auto, unfolding(crate::specs::Entries::form_string_at))]
-pub(crate) fn string_of_form<'a>(
+pub(crate) fn form_string_at<'a>(
     strings: &StringSections<'a>,
     form: u32,
     bytes: &'a [u8],
 ) -> Result<(&'a [u8], &'a [u8]), UnitError>
-    ensures { Gives (λ x. (x.0.now, x.1.now)) result (form_string_at (view_strings strings.now) form bytes.now) }
+    ensures { AgreesWith (λ x. (x.0.now, x.1.now)) result (form_string_at (view_strings strings.now) form bytes.now) }
 {
     match form {
         DW_FORM_STRING => string_at(UnitError::HeaderCutOff, bytes),
@@ -133,7 +133,7 @@ fn offset_string_at<'a>(
     section: &'a [u8],
     bytes: &'a [u8],
 ) -> Result<(&'a [u8], &'a [u8]), UnitError>
-    ensures { Gives (λ x. (x.0.now, x.1.now)) result (offset_string_at section.now bytes.now) }
+    ensures { AgreesWith (λ x. (x.0.now, x.1.now)) result (offset_string_at section.now bytes.now) }
 {
     let (offset, rest) = word_at(UnitError::HeaderCutOff, bytes)?;
     match text_before_zero(bytes_from(section, offset as usize)) {
@@ -144,8 +144,8 @@ fn offset_string_at<'a>(
 
 /// Reads a number of this form; the error is `EntryForm` if the form is not a number.
 #[tactic(auto, unfolding(crate::specs::Entries::form_number_at))]
-pub(crate) fn number_of_form(form: u32, bytes: &[u8]) -> Result<(u64, &[u8]), UnitError>
-    ensures { Gives (λ x. (x.0, x.1.now)) result (form_number_at form bytes.now) }
+pub(crate) fn form_number_at(form: u32, bytes: &[u8]) -> Result<(u64, &[u8]), UnitError>
+    ensures { AgreesWith (λ x. (x.0, x.1.now)) result (form_number_at form bytes.now) }
 {
     match form {
         DW_FORM_UDATA => {
@@ -171,7 +171,7 @@ pub(crate) fn number_of_form(form: u32, bytes: &[u8]) -> Result<(u64, &[u8]), Un
 
 /// Skips a value of this form, and returns the bytes after it. The error is `EntryForm` if the form is not supported.
 pub(crate) fn skip_form(form: u32, bytes: &[u8]) -> Result<&[u8], UnitError>
-    ensures { Gives (λ x. x.now) result (skip_form form bytes.now) }
+    ensures { AgreesWith (λ x. x.now) result (skip_form form bytes.now) }
 {
     match skipped_size(form) {
         Some(size) => skip_at(UnitError::HeaderCutOff, size, bytes),
@@ -193,7 +193,7 @@ fn skipped_size(form: u32) -> Option<u32>
 // Skips a value of a form without a fixed size: a string, udata or block. Any other form is the error `EntryForm`.
 #[tactic(auto, unfolding(crate::specs::Entries::skip_variable_form))]
 fn skip_variable_form(form: u32, bytes: &[u8]) -> Result<&[u8], UnitError>
-    ensures { Gives (λ x. x.now) result (skip_variable_form form bytes.now) }
+    ensures { AgreesWith (λ x. x.now) result (skip_variable_form form bytes.now) }
 {
     match form {
         DW_FORM_STRING => {

@@ -1,13 +1,13 @@
 //! The header of a unit's line number program (DWARF 5, section 6.2.4). A function named `.._at` also returns the bytes after what it has
 //! read. The error is `HeaderCutOff` if the bytes end too early.
 ghost use Rattle.std.specs.Prelude.{◌≡◌, ◌<◌, IfOk};
-ghost use Rattle.rv_lines.specs.Reading.{Gives};
-ghost use Rattle.rv_lines.specs.Header.{are_standard, sign_extended, operations_check, lengths_at, parameters_at, entries_of_version};
-ghost use Rattle.rv_lines.specs.Header.{first_number, index_of, fields_of_header, addresses_check, version_at, frame_at, header_at};
+ghost use Rattle.rv_lines.specs.Reading.{AgreesWith};
+ghost use Rattle.rv_lines.specs.Header.{are_standard, sign_extended, bytes_after_operations, lengths_at, parameters_at, entries_of_version};
+ghost use Rattle.rv_lines.specs.Header.{first_number, index_of, fields_of_header, bytes_after_address_size, version_at, frame_at, header_at};
 ghost use Rattle.rv_lines.specs.EntriesInside.{view_entries, view_strings, summarised};
 ghost use Rattle.rv_lines.specs.HeaderInside.{view_header, header_summary_of, header_summary_at};
 
-use crate::entries::{Entries, Entry, list_at, table_at};
+use crate::entries::{Entries, Entry, dwarf5_list_at, legacy_list_at};
 use crate::error::UnitError;
 use crate::reading::{byte_at, half_at, word_at};
 use crate::tables::StringSections;
@@ -71,7 +71,7 @@ pub(crate) fn header_at<'a>(
     requested: RequestedEntries,
     bytes: &'a [u8],
 ) -> Result<(Header<'a>, &'a [u8]), UnitError>
-    ensures value { Gives (λ x. (view_header x.0, x.1.now)) result
+    ensures value { AgreesWith (λ x. (view_header x.0, x.1.now)) result
         (header_summary_at requested (header_at (view_strings strings.now) bytes.now)) }
     ensures line_range { IfOk result (λ x. 0 < x.0.parameters.line_range) }
 {
@@ -83,10 +83,10 @@ pub(crate) fn header_at<'a>(
 // Reads a header up to `header_length`. Returns the version, the bytes of the remaining fields, and the bytes of the program.
 #[tactic(auto, unfolding(crate::specs::Header::frame_at))]
 fn frame_at(bytes: &[u8]) -> Result<(u16, &[u8], &[u8]), UnitError>
-    ensures { Gives (λ x. ((x.0, x.1.now), x.2.now)) result (frame_at bytes.now) }
+    ensures { AgreesWith (λ x. ((x.0, x.1.now), x.2.now)) result (frame_at bytes.now) }
 {
     let (version, rest) = version_at(bytes)?;
-    let rest = addresses_check(version, rest)?;
+    let rest = bytes_after_address_size(version, rest)?;
     let (size, rest) = word_at(UnitError::HeaderCutOff, rest)?;
     if rest.len() < size as usize {
         return Err(UnitError::HeaderCutOff);
@@ -98,7 +98,7 @@ fn frame_at(bytes: &[u8]) -> Result<(u16, &[u8], &[u8]), UnitError>
 // Reads the version, which must be 2 to 5.
 #[tactic(auto, unfolding(crate::specs::Header::version_at))]
 fn version_at(bytes: &[u8]) -> Result<(u16, &[u8]), UnitError>
-    ensures { Gives (λ x. (x.0, x.1.now)) result (version_at bytes.now) }
+    ensures { AgreesWith (λ x. (x.0, x.1.now)) result (version_at bytes.now) }
 {
     let (version, rest) = half_at(UnitError::HeaderCutOff, bytes)?;
     if 2 <= version && version <= 5 {
@@ -110,9 +110,9 @@ fn version_at(bytes: &[u8]) -> Result<(u16, &[u8]), UnitError>
 
 // Checks `address_size`, which must be 4, and `segment_selector_size`, which must be 0, and returns the bytes after them. Only DWARF 5 has
 // these fields.
-#[tactic(auto, unfolding(crate::specs::Header::addresses_check))]
-fn addresses_check(version: u16, bytes: &[u8]) -> Result<&[u8], UnitError>
-    ensures { Gives (λ x. x.now) result (addresses_check version bytes.now) }
+#[tactic(auto, unfolding(crate::specs::Header::bytes_after_address_size))]
+fn bytes_after_address_size(version: u16, bytes: &[u8]) -> Result<&[u8], UnitError>
+    ensures { AgreesWith (λ x. x.now) result (bytes_after_address_size version bytes.now) }
 {
     if version != 5 {
         return Ok(bytes);
@@ -136,7 +136,7 @@ fn fields_of_header<'a>(
     version: u16,
     bytes: &'a [u8],
 ) -> Result<Header<'a>, UnitError>
-    ensures value { Gives view_header result (header_summary_of requested (fields_of_header (view_strings strings.now) version bytes.now)) }
+    ensures value { AgreesWith view_header result (header_summary_of requested (fields_of_header (view_strings strings.now) version bytes.now)) }
     ensures line_range { IfOk result (λ header. 0 < header.parameters.line_range) }
 {
     let first = first_number(version);
@@ -182,24 +182,24 @@ fn entries_of_version<'a>(
     index: Option<u64>,
     bytes: &'a [u8],
 ) -> Result<(Entries<'a>, &'a [u8]), UnitError>
-    ensures { Gives (λ x. (view_entries x.0, x.1.now)) result
+    ensures { AgreesWith (λ x. (view_entries x.0, x.1.now)) result
         (summarised index (entries_of_version (view_strings strings.now) version of_files bytes.now)) }
 {
     if version == 5 {
-        table_at(strings, index, bytes)
+        dwarf5_list_at(strings, index, bytes)
     } else {
-        list_at(of_files, index, bytes)
+        legacy_list_at(of_files, index, bytes)
     }
 }
 
 // Reads the parameters of the program, from `minimum_instruction_length` to `opcode_base`. `line_range` and `opcode_base` must not be 0.
 #[tactic(auto, unfolding(crate::specs::Header::parameters_at))]
 fn parameters_at(version: u16, bytes: &[u8]) -> Result<(Parameters, &[u8]), UnitError>
-    ensures value { Gives (λ x. (x.0, x.1.now)) result (parameters_at version bytes.now) }
+    ensures value { AgreesWith (λ x. (x.0, x.1.now)) result (parameters_at version bytes.now) }
     ensures line_range { IfOk result (λ x. 0 < x.0.line_range) }
 {
     let (min_length, rest) = byte_at(UnitError::HeaderCutOff, bytes)?;
-    let rest = operations_check(version, rest)?;
+    let rest = bytes_after_operations(version, rest)?;
     let (is_stmt, rest) = byte_at(UnitError::HeaderCutOff, rest)?;
     let (line_base, rest) = byte_at(UnitError::HeaderCutOff, rest)?;
     let (line_range, rest) = byte_at(UnitError::HeaderCutOff, rest)?;
@@ -221,9 +221,9 @@ fn parameters_at(version: u16, bytes: &[u8]) -> Result<(Parameters, &[u8]), Unit
 }
 
 // Checks `maximum_operations_per_instruction`, which must be 1, and returns the bytes after it. DWARF 2 and 3 do not have this field.
-#[tactic(auto, unfolding(crate::specs::Header::operations_check))]
-fn operations_check(version: u16, bytes: &[u8]) -> Result<&[u8], UnitError>
-    ensures { Gives (λ x. x.now) result (operations_check version bytes.now) }
+#[tactic(auto, unfolding(crate::specs::Header::bytes_after_operations))]
+fn bytes_after_operations(version: u16, bytes: &[u8]) -> Result<&[u8], UnitError>
+    ensures { AgreesWith (λ x. x.now) result (bytes_after_operations version bytes.now) }
 {
     if version < 4 {
         return Ok(bytes);
@@ -251,7 +251,7 @@ fn sign_extended(byte: u8) -> u32
 // standard's.
 #[tactic(auto, unfolding(crate::specs::Header::lengths_at))]
 fn lengths_at(opcode_base: u8, bytes: &[u8]) -> Result<(&[u8], &[u8]), UnitError>
-    ensures { Gives (λ x. (x.0.now, x.1.now)) result (lengths_at opcode_base bytes.now) }
+    ensures { AgreesWith (λ x. (x.0.now, x.1.now)) result (lengths_at opcode_base bytes.now) }
 {
     let count = usize::from(opcode_base.saturating_sub(1));
     let (lengths, rest) = bytes.split_at(count.min(bytes.len()));

@@ -1,6 +1,6 @@
 //! LEB128, the numbers of variable length (DWARF 5, section 7.6). A function that reads or skips also returns the bytes after the number.
 ghost use Rattle.std.specs.Prelude.{◌≡◌, ◌==◌, ◌<◌, ◌≤◌, ◌+◌, ◌^◌, position, nat_lt, length, take, min};
-ghost use Rattle.rv_lines.specs.Reading.{Gives};
+ghost use Rattle.rv_lines.specs.Reading.{AgreesWith};
 ghost use Rattle.rv_lines.specs.Numbers.{number_at, signed_at, skip_number, skip_numbers, digits_value};
 
 use crate::error::UnitError;
@@ -18,7 +18,7 @@ const OUT_OF_RANGE: u64 = 0x1_0000_0000;
 /// Reads an unsigned LEB128 number. The error is `cut` if the number has no end, and `Number` if it is 2^32 or more.
 #[tactic(auto, unfolding(crate::specs::Numbers::number_at))]
 pub(crate) fn number_at(cut: UnitError, bytes: &[u8]) -> Result<(u32, &[u8]), UnitError>
-    ensures { Gives (λ x. (x.0, x.1.now)) result (number_at cut bytes.now) }
+    ensures { AgreesWith (λ x. (x.0, x.1.now)) result (number_at cut bytes.now) }
 {
     let Some(last) = last_byte(bytes) else {
         return Err(cut);
@@ -34,7 +34,7 @@ pub(crate) fn number_at(cut: UnitError, bytes: &[u8]) -> Result<(u32, &[u8]), Un
 /// -2^31 to 2^31 - 1.
 #[tactic(auto, unfolding(crate::specs::Numbers::signed_at))]
 pub(crate) fn signed_at(cut: UnitError, bytes: &[u8]) -> Result<(u32, &[u8]), UnitError>
-    ensures { Gives (λ x. (x.0, x.1.now)) result (signed_at cut bytes.now) }
+    ensures { AgreesWith (λ x. (x.0, x.1.now)) result (signed_at cut bytes.now) }
 {
     let Some(last) = last_byte(bytes) else {
         return Err(cut);
@@ -53,7 +53,7 @@ pub(crate) fn signed_at(cut: UnitError, bytes: &[u8]) -> Result<(u32, &[u8]), Un
 /// Skips a LEB128 number of any size, and returns the bytes after it, or the error `cut` if the number has no end.
 #[tactic(auto, unfolding(crate::specs::Numbers::skip_number))]
 pub(crate) fn skip_number(cut: UnitError, bytes: &[u8]) -> Result<&[u8], UnitError>
-    ensures { Gives (λ x. x.now) result (skip_number cut bytes.now) }
+    ensures { AgreesWith (λ x. x.now) result (skip_number cut bytes.now) }
 {
     let Some(last) = last_byte(bytes) else {
         return Err(cut);
@@ -63,7 +63,7 @@ pub(crate) fn skip_number(cut: UnitError, bytes: &[u8]) -> Result<&[u8], UnitErr
 
 /// Skips `count` LEB128 numbers of any size, and returns the bytes after them, or the error `cut` if one of them has no end.
 pub(crate) fn skip_numbers(cut: UnitError, count: u8, bytes: &[u8]) -> Result<&[u8], UnitError>
-    ensures { Gives (λ x. x.now) result (skip_numbers cut count bytes.now) }
+    ensures { AgreesWith (λ x. x.now) result (skip_numbers cut count bytes.now) }
 {
     let mut rest = bytes;
     for _ in 0..count {

@@ -1,7 +1,7 @@
 //! The instructions of a line number program (DWARF 5, section 6.2.5), which are called operations here. A function that reads also returns
 //! the bytes after what it has read, or the error `OperationCutOff` if the bytes end too early.
 ghost use Rattle.std.specs.Prelude.{◌≡◌, ◌<◌, ◌-◌, slice_index};
-ghost use Rattle.rv_lines.specs.Reading.{Gives};
+ghost use Rattle.rv_lines.specs.Reading.{AgreesWith};
 ghost use Rattle.rv_lines.specs.Operations.{standard_at, extended_of_length, extended_at, operation_at};
 
 use crate::error::UnitError;
@@ -63,7 +63,7 @@ pub(crate) fn operation_at<'a>(
     lengths: &[u8],
     bytes: &'a [u8],
 ) -> Result<(Operation, &'a [u8]), UnitError>
-    ensures { Gives (λ x. (x.0, x.1.now)) result (operation_at opcode_base lengths.now bytes.now) }
+    ensures { AgreesWith (λ x. (x.0, x.1.now)) result (operation_at opcode_base lengths.now bytes.now) }
 {
     let (code, rest) = byte_at(UnitError::OperationCutOff, bytes)?;
     if opcode_base <= code {
@@ -84,7 +84,7 @@ fn standard_at<'a>(
     bytes: &'a [u8],
 ) -> Result<(Operation, &'a [u8]), UnitError>
     requires { 0 < code }
-    ensures { Gives (λ x. (x.0, x.1.now)) result (standard_at lengths.now code bytes.now) }
+    ensures { AgreesWith (λ x. (x.0, x.1.now)) result (standard_at lengths.now code bytes.now) }
 {
     match code {
         DW_LNS_COPY => Ok((Operation::Copy, bytes)),
@@ -126,7 +126,7 @@ fn operands_of(lengths: &[u8], code: u8) -> u8
 // Reads an extended opcode, beginning with its length, which must not be 0.
 #[tactic(auto, unfolding(crate::specs::Operations::extended_at))]
 fn extended_at(bytes: &[u8]) -> Result<(Operation, &[u8]), UnitError>
-    ensures { Gives (λ x. (x.0, x.1.now)) result (extended_at bytes.now) }
+    ensures { AgreesWith (λ x. (x.0, x.1.now)) result (extended_at bytes.now) }
 {
     let (size, rest) = number_at(UnitError::OperationCutOff, bytes)?;
     if size == 0 {
@@ -140,7 +140,7 @@ fn extended_at(bytes: &[u8]) -> Result<(Operation, &[u8]), UnitError>
 #[tactic(auto, unfolding(crate::specs::Operations::extended_of_length))]
 fn extended_of_length(size: u32, bytes: &[u8]) -> Result<(Operation, &[u8]), UnitError>
     requires { 0 < size }
-    ensures { Gives (λ x. (x.0, x.1.now)) result (extended_of_length size bytes.now) }
+    ensures { AgreesWith (λ x. (x.0, x.1.now)) result (extended_of_length size bytes.now) }
 {
     let (code, rest) = byte_at(UnitError::OperationCutOff, bytes)?;
     match code {

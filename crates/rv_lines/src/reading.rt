@@ -1,14 +1,14 @@
 //! Reading from the front of bytes. Each function returns a value and the bytes after it, or the error `cut` if the bytes end too early.
 ghost use Rattle.std.specs.Prelude.{◌≡◌, ◌==◌, ◌<◌, ◌+◌, position, Some, None, MatchOption, IfSome, length, drop};
 ghost use Rattle.rv_elf.specs.Sections.{text_before_zero};
-ghost use Rattle.rv_lines.specs.Reading.{Gives, byte_at, fixed_at, skip_at, string_at};
+ghost use Rattle.rv_lines.specs.Reading.{AgreesWith, byte_at, fixed_at, skip_at, string_at};
 
 use crate::error::UnitError;
 use byteorder::{ByteOrder, LittleEndian};
 
 /// Reads a byte, or returns the error `cut` if there is none.
 pub(crate) fn byte_at(cut: UnitError, bytes: &[u8]) -> Result<(u8, &[u8]), UnitError>
-    ensures { Gives (λ x. (x.0, x.1.now)) result (byte_at cut bytes.now) }
+    ensures { AgreesWith (λ x. (x.0, x.1.now)) result (byte_at cut bytes.now) }
 {
     match bytes {
         [] => Err(cut),
@@ -18,7 +18,7 @@ pub(crate) fn byte_at(cut: UnitError, bytes: &[u8]) -> Result<(u8, &[u8]), UnitE
 
 /// Reads a little-endian number of two bytes, or returns the error `cut` if there are fewer.
 pub(crate) fn half_at(cut: UnitError, bytes: &[u8]) -> Result<(u16, &[u8]), UnitError>
-    ensures { Gives (λ x. (x.0, x.1.now)) result (fixed_at cut 2 bytes.now) }
+    ensures { AgreesWith (λ x. (x.0, x.1.now)) result (fixed_at cut 2 bytes.now) }
 {
     if bytes.len() < 2 {
         return Err(cut);
@@ -28,7 +28,7 @@ pub(crate) fn half_at(cut: UnitError, bytes: &[u8]) -> Result<(u16, &[u8]), Unit
 
 /// Reads a little-endian number of four bytes, or returns the error `cut` if there are fewer.
 pub(crate) fn word_at(cut: UnitError, bytes: &[u8]) -> Result<(u32, &[u8]), UnitError>
-    ensures { Gives (λ x. (x.0, x.1.now)) result (fixed_at cut 4 bytes.now) }
+    ensures { AgreesWith (λ x. (x.0, x.1.now)) result (fixed_at cut 4 bytes.now) }
 {
     if bytes.len() < 4 {
         return Err(cut);
@@ -38,7 +38,7 @@ pub(crate) fn word_at(cut: UnitError, bytes: &[u8]) -> Result<(u32, &[u8]), Unit
 
 /// Reads a little-endian number of eight bytes, or returns the error `cut` if there are fewer.
 pub(crate) fn long_at(cut: UnitError, bytes: &[u8]) -> Result<(u64, &[u8]), UnitError>
-    ensures { Gives (λ x. (x.0, x.1.now)) result (fixed_at cut 8 bytes.now) }
+    ensures { AgreesWith (λ x. (x.0, x.1.now)) result (fixed_at cut 8 bytes.now) }
 {
     if bytes.len() < 8 {
         return Err(cut);
@@ -48,7 +48,7 @@ pub(crate) fn long_at(cut: UnitError, bytes: &[u8]) -> Result<(u64, &[u8]), Unit
 
 /// Skips `size` bytes, and returns the bytes after them, or the error `cut` if there are fewer.
 pub(crate) fn skip_at(cut: UnitError, size: u32, bytes: &[u8]) -> Result<&[u8], UnitError>
-    ensures { Gives (λ x. x.now) result (skip_at cut size bytes.now) }
+    ensures { AgreesWith (λ x. x.now) result (skip_at cut size bytes.now) }
 {
     if bytes.len() < size as usize {
         return Err(cut);
@@ -59,7 +59,7 @@ pub(crate) fn skip_at(cut: UnitError, size: u32, bytes: &[u8]) -> Result<&[u8], 
 /// Reads a string that ends with a zero byte, which is not part of the result, or returns the error `cut` if there is no zero byte.
 #[tactic(auto, unfolding(crate::specs::Reading::string_at))]
 pub(crate) fn string_at(cut: UnitError, bytes: &[u8]) -> Result<(&[u8], &[u8]), UnitError>
-    ensures { Gives (λ x. (x.0.now, x.1.now)) result (string_at cut bytes.now) }
+    ensures { AgreesWith (λ x. (x.0.now, x.1.now)) result (string_at cut bytes.now) }
 {
     match text_before_zero(bytes) {
         None => Err(cut),

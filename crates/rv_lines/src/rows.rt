@@ -25,7 +25,7 @@ pub(crate) struct Row {
     pub(crate) file: u32,
     pub(crate) line: u32,
     pub(crate) is_stmt: bool,
-    pub(crate) ends: bool,
+    pub(crate) ends_sequence: bool,
     pub(crate) low: u32,
 }
 
@@ -117,7 +117,7 @@ impl State {
             file: self.file,
             line: self.line,
             is_stmt: self.is_stmt,
-            ends,
+            ends_sequence: ends,
             low: self.low_of(),
         }
     }
@@ -149,14 +149,14 @@ impl Row {
     pub(crate) fn covers_nothing(&self) -> bool
         ensures { result ≡ covers_nothing self.now }
     {
-        self.ends || self.address < self.low
+        self.ends_sequence || self.address < self.low
     }
 
     /// Whether the unit does not have the file of the row. The end of a sequence needs no file.
     pub(crate) fn lacks_file(&self, files: FileNumbers) -> bool
         ensures { result ≡ lacks_file files self.now }
     {
-        !self.ends && !files.has_file(self.file)
+        !self.ends_sequence && !files.has_file(self.file)
     }
 }
 

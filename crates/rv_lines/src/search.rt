@@ -8,7 +8,7 @@ use crate::error::UnitError;
 use crate::reading::bytes_from;
 use crate::span::SourceLine;
 use crate::tables::LineTables;
-use crate::units::{note_unit, unit_size};
+use crate::units::{record_unit, unit_size};
 
 /// The number of units, how many of them are rejected, and the error and the offset of the first rejected one.
 #[derive(Clone, Copy, Debug, PartialEq, Eq)]
@@ -45,7 +45,7 @@ pub fn find_lines(
     };
     let mut offset = 0;
     while offset < tables.lines.len() {
-        let read = note_unit(tables, offset as u32, addresses, found);
+        let read = record_unit(tables, offset as u32, addresses, found);
         rejected = rejected.after(offset as u32, read);
         offset += unit_size(bytes_from(tables.lines, offset));
     }

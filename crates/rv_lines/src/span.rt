@@ -1,7 +1,7 @@
 //! The addresses that a row covers, and the source line that is found for them.
 ghost use Rattle.std.specs.Prelude.{◌≡◌, length};
 ghost use Rattle.rv_lines.specs.Lines.{span};
-ghost use Rattle.rv_lines.specs.SearchInside.{higher, noted_each, IsRising};
+ghost use Rattle.rv_lines.specs.SearchInside.{higher, recorded_each, IsRising};
 
 use crate::rows::Row;
 
@@ -45,10 +45,10 @@ impl Span {
 }
 
 /// Records the source line of a span for each address that it covers, unless the address has one with an equal or greater `low`.
-pub(crate) fn note_span(span: &Span, addresses: &[u32], found: &mut [Option<SourceLine>])
+pub(crate) fn record_span(span: &Span, addresses: &[u32], found: &mut [Option<SourceLine>])
     requires rising { IsRising addresses.now }
     requires same_length { length found.old ≡ length addresses.now }
-    ensures { found.new ≡ noted_each span.now addresses.now found.old }
+    ensures { found.new ≡ recorded_each span.now addresses.now found.old }
 {
     let mut k = addresses.partition_point(|address| *address < span.from);
     while k < addresses.len() && addresses[k] < span.to {

@@ -1,14 +1,14 @@
 //! The units of `.debug_line` (DWARF 5, sections 7.2.2 and 7.4 for their lengths, section 6.2.4).
 ghost use Rattle.std.specs.Prelude.{◌≡◌, ◌<◌, length, drop, min, MatchResult, IfOk, Err};
-ghost use Rattle.rv_lines.specs.Reading.{Gives};
+ghost use Rattle.rv_lines.specs.Reading.{AgreesWith};
 ghost use Rattle.rv_lines.specs.EntriesInside.{view_strings};
 ghost use Rattle.rv_lines.specs.Units.{unit_bytes, unit_size, long_unit_size, rows_at};
 ghost use Rattle.rv_lines.specs.Lines.{spans_of_rows};
-ghost use Rattle.rv_lines.specs.SearchInside.{noted_all, checked_only, rows_of_program, IsRising};
+ghost use Rattle.rv_lines.specs.SearchInside.{recorded_all, checked_only, rows_of_program, IsRising};
 
 use crate::error::UnitError;
 use crate::header::{RequestedEntries, header_at};
-use crate::program::{Program, note_program};
+use crate::program::{Program, record_program};
 use crate::reading::bytes_from;
 use crate::span::SourceLine;
 use crate::tables::LineTables;
@@ -26,7 +26,7 @@ const DWARF_64: u32 = 0xffff_ffff;
 const RESERVED: u32 = 0xffff_fff0;
 
 /// Records the spans of the unit at an offset; or returns the unit's error, and records none.
-pub(crate) fn note_unit(
+pub(crate) fn record_unit(
     tables: &LineTables,
     offset: u32,
     addresses: &[u32],
@@ -35,13 +35,13 @@ pub(crate) fn note_unit(
     requires rising { IsRising addresses.now }
     requires same_length { length found.old ≡ length addresses.now }
     ensures value { result ≡ checked_only (rows_at (view_strings tables.now.strings) (drop offset tables.now.lines.now)) }
-    ensures found { found.new ≡ noted_all
+    ensures found { found.new ≡ recorded_all
         (spans_of_rows offset (rows_at (view_strings tables.now.strings) (drop offset tables.now.lines.now))) addresses.now found.old }
 {
     let program = program_of(tables, offset)?;
     // An error may follow rows, so the program is checked before its rows are recorded.
-    note_program(&program, &[], &mut [])?;
-    note_program(&program, addresses, found)
+    record_program(&program, &[], &mut [])?;
+    record_program(&program, addresses, found)
 }
 
 // Returns the program of the unit at an offset, or the error of its length or of its header.
@@ -66,7 +66,7 @@ fn program_of<'a>(tables: &LineTables<'a>, offset: u32) -> Result<Program<'a>, U
 /// Returns the bytes of the unit at the front, after `unit_length`, or the error of its length.
 #[tactic(auto, unfolding(crate::specs::Units::unit_bytes))]
 pub(crate) fn unit_bytes(bytes: &[u8]) -> Result<&[u8], UnitError>
-    ensures { Gives (λ x. x.now) result (unit_bytes bytes.now) }
+    ensures { AgreesWith (λ x. x.now) result (unit_bytes bytes.now) }
 {
     if bytes.len() < LENGTH_SIZE {
         return Err(UnitError::UnitCutOff);

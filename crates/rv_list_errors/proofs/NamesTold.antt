@@ -15,7 +15,7 @@ use Rattle.rv_list_errors.specs.declared.message.Message.{Message}
 -- ---- a message that grows
 
 pub adds_nothing : (message : Message) → Adds message message []
-adds_nothing message = nothing message.grown
+adds_nothing message = nothing message.status
   where
     nothing : {T E : Type 0} (grown : Result T E)
         → OnOk grown (IsOk grown × (message.bytes.items ≡ message.bytes.items ++ []))
@@ -25,12 +25,12 @@ adds_nothing message = nothing message.grown
 pub adds_more : (first second third : Message) (text more : List ℕ) → Adds first second text → Adds second third more
     → Adds first third (text ++ more)
 adds_more first second third text more before behind =
-    both second.grown third.grown before behind
+    both second.status third.status before behind
   where
     both : {T E : Type 0} (grown after : Result T E)
-        → OnOk grown (IsOk first.grown × (second.bytes.items ≡ first.bytes.items ++ text))
+        → OnOk grown (IsOk first.status × (second.bytes.items ≡ first.bytes.items ++ text))
         → OnOk after (IsOk grown × (third.bytes.items ≡ second.bytes.items ++ more))
-        → OnOk after (IsOk first.grown × (third.bytes.items ≡ first.bytes.items ++ (text ++ more)))
+        → OnOk after (IsOk first.status × (third.bytes.items ≡ first.bytes.items ++ (text ++ more)))
     both (Ok done) (Ok again) had has =
         (had.0, has.1 ∙ (ap (λ l. l ++ more) had.1 ∙ append_assoc first.bytes.items text more))
     both (Err error) (Ok again) had has = cc (has.0)

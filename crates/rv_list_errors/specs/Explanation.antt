@@ -26,8 +26,8 @@ use Rattle.rv_list_errors.specs.declared.message.Message.{Message}
 
 -- either an allocation failed, or the message went from `before` to `after` by appending a text that satisfies the predicate
 abbrev pub AppendsTextThat : Message → Message → (List ℕ → Type 0) → Type 0
-AppendsTextThat before after IsSo = OnOk after.grown
-    (IsOk before.grown × ((text : List ℕ) × IsSo text × (after.bytes.items ≡ before.bytes.items ++ text)))
+AppendsTextThat before after Holds = OnOk after.status
+    (IsOk before.status × ((text : List ℕ) × Holds text × (after.bytes.items ≡ before.bytes.items ++ text)))
 
 -- ---- actual values
 
@@ -104,11 +104,11 @@ abbrev pub nearest_job_text : List (Option (List ℕ)) → Option (List ℕ) →
 nearest_job_text names (Some name) = codes "; a similar name exists: " ++ quoted name
 nearest_job_text names None = codes "; the earlier jobs are " ++ names_text (present names)
 
--- `message` suggests the name that is nearest to the unknown name `expected`, or, if none is near, lists the first names, at most
+-- `message` suggests the name that is nearest to the unknown name `unknown`, or, if none is near, lists the first names, at most
 -- `max_listed_names`
 abbrev pub IsJobNameSuggestion : List (Option (List ℕ)) → List ℕ → List ℕ → Type 0
-IsJobNameSuggestion names expected message =
-    (near : Option (List ℕ)) × IsNearName names expected near × (message ≡ nearest_job_text names near)
+IsJobNameSuggestion names unknown message =
+    (near : Option (List ℕ)) × IsNearName names unknown near × (message ≡ nearest_job_text names near)
 
 -- ---- expected values
 
@@ -132,7 +132,7 @@ inserted_text rest.FaultKinds = first_fault_kinds_text (length fault_kinds)
 -- the words of an explanation, without the key and its value
 abbrev pub explained_text : Explanation → List ℕ
 explained_text (explanation.Text text) = text.now
-explained_text (explanation.Expected expected) = expected.now.before.now ++ (inserted_text expected.now.rest ++ expected.now.behind.now)
+explained_text (explanation.Expected expected) = expected.now.before.now ++ (inserted_text expected.now.inserted ++ expected.now.after.now)
 
 -- the text that says what is expected of the bad value, given the error, or `None` if it depends on more than the error
 abbrev pub expected_of_error : What → Option (List ℕ)

@@ -11,7 +11,7 @@ use Rattle.rv_lists.specs.declared.error.JobError.{JobError}
 use Rattle.rv_text.specs.Printable.{printable_value}
 use Rattle.rv_list_locations.specs.JobLocations.{job_lines}
 use Rattle.rv_list_errors.specs.declared.fault_text.FaultView.{FaultView}
-use Rattle.rv_list_errors.specs.declared.fault_text.FaultView.TheVariants as look
+use Rattle.rv_list_errors.specs.declared.fault_text.FaultView.TheVariants as fault_view
 
 -- ---- the names of jobs
 
@@ -80,5 +80,5 @@ borrowed_names names = map borrowed_name names
 
 -- the text between the path and the explanation of an error of the job with this number, given the list as it was parsed again
 abbrev pub location_in_view : FaultView → ℕ → List ℕ
-location_in_view (look.NoToml text error) number = []
-location_in_view (look.List list) number = fault_location list.lines.items (borrowed_names list.names.items) number
+location_in_view (fault_view.NoToml text error) number = []
+location_in_view (fault_view.List list) number = fault_location list.lines.items (borrowed_names list.names.items) number

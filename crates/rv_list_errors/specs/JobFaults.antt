@@ -24,10 +24,10 @@ use Rattle.rv_list_errors.specs.FaultHeads.{borrowed_names}
 use Rattle.rv_list_errors.specs.Explanation.{IsKeyAndValue, IsShownValue, expected_of_error, region_number_text, inserted_text, explained_text}
 use Rattle.rv_list_errors.specs.UnknownKeys.{ExplainsUnknownKey}
 use Rattle.rv_list_errors.specs.declared.fault_text.FaultView.{FaultView}
-use Rattle.rv_list_errors.specs.declared.fault_text.FaultView.TheVariants as look
+use Rattle.rv_list_errors.specs.declared.fault_text.FaultView.TheVariants as fault_view
 use Rattle.rv_list_errors.specs.declared.list.List as listed
-use Rattle.rv_list_errors.specs.declared.explanations.Bytes.{Bytes}
-use Rattle.rv_list_errors.specs.declared.explanations.Bytes.TheVariants as bytes
+use Rattle.rv_list_errors.specs.declared.explanations.ByteCount.{ByteCount}
+use Rattle.rv_list_errors.specs.declared.explanations.ByteCount.TheVariants as byte_count
 use Rattle.rv_list_errors.specs.declared.explanations.InsertedText.{InsertedText}
 use Rattle.rv_list_errors.specs.declared.explanations.InsertedText.TheVariants as rest
 use Rattle.rv_list_errors.specs.declared.explanations.Expected.{Expected}
@@ -144,10 +144,10 @@ explained_key (explanation.Text text) = None
 explained_key (explanation.Expected expected) = Some expected.now.key.now
 
 -- the number of bytes that a text of this length represents, or 0 if the number is never shown
-abbrev pub shown_byte_count : Bytes → ℕ → ℕ
-shown_byte_count bytes.Untold length = 0
-shown_byte_count bytes.Each length = length
-shown_byte_count bytes.Pairs length = length / 2
+abbrev pub shown_byte_count : ByteCount → ℕ → ℕ
+shown_byte_count byte_count.NotShown length = 0
+shown_byte_count byte_count.OfText length = length
+shown_byte_count byte_count.OfHexDigits length = length / 2
 
 -- the text ` (COUNT bytes)` if the count exceeds the maximum; empty if it does not, or if there is no maximum
 abbrev pub bytes_text : InsertedText → ℕ → List ℕ
@@ -161,13 +161,13 @@ text_length (Some text) = length text
 
 -- the text that says what is expected of the value of a key
 abbrev pub expected_text : Expected → List ℕ
-expected_text expected = expected.before.now ++ (inserted_text expected.rest ++ expected.behind.now)
+expected_text expected = expected.before.now ++ (inserted_text expected.inserted ++ expected.after.now)
 
 -- `message` shows the key and its value, or says that the key is missing; then it gives the number of bytes if there are too many, and
 -- says what is expected
 abbrev pub ExplainsExpectedValue : Expected → Members → List ℕ → Type 0
 ExplainsExpectedValue expected ms message = (key_and_value : List ℕ) × IsKeyAndValue expected.key.now (get_member expected.key.now ms) key_and_value
-    × (message ≡ key_and_value ++ (bytes_text expected.rest (shown_byte_count expected.bytes (text_length (text_at_key expected.key.now ms)))
+    × (message ≡ key_and_value ++ (bytes_text expected.inserted (shown_byte_count expected.bytes (text_length (text_at_key expected.key.now ms)))
     ++ (codes ": " ++ expected_text expected)))
 
 -- `message` is the text of an explanation, given the values of the job
@@ -319,9 +319,9 @@ ExplainsFaultOfList list fault message = 0 < fault.job → ExplainsJobFault
 
 -- `message` explains this error of a list that was parsed again; if it is not a document, any text will do
 abbrev pub ExplainsFaultInView : FaultView → JobError → List ℕ → Type 0
-ExplainsFaultInView (look.NoToml text error) fault message = ⊤
-ExplainsFaultInView (look.List list) fault message = ExplainsFaultOfList list fault message
+ExplainsFaultInView (fault_view.NoToml text error) fault message = ⊤
+ExplainsFaultInView (fault_view.List list) fault message = ExplainsFaultOfList list fault message
 
 -- the message is `head`, followed by a text that satisfies the predicate
 abbrev pub HasHeadAndTail : (List ℕ → Type 0) → List ℕ → List ℕ → Type 0
-HasHeadAndTail IsSo head message = (tail : List ℕ) × IsSo tail × (message ≡ head ++ tail)
+HasHeadAndTail Holds head message = (tail : List ℕ) × Holds tail × (message ≡ head ++ tail)

@@ -14,9 +14,9 @@ BeginsWith head message = (rest : List ℕ) × (message ≡ head ++ rest)
 
 -- there is one message for each error, in order, and each error with its message satisfies the predicate
 abbrev pub EachFaultHasMessage : (JobError → List ℕ → Type 0) → List JobError → List (List ℕ) → Type 0
-EachFaultHasMessage Is [] [] = ⊤
-EachFaultHasMessage Is (fault ∷ faults) (message ∷ messages) = Is fault message × EachFaultHasMessage Is faults messages
-EachFaultHasMessage Is _ _ = ⊥
+EachFaultHasMessage Holds [] [] = ⊤
+EachFaultHasMessage Holds (fault ∷ faults) (message ∷ messages) = Holds fault message × EachFaultHasMessage Holds faults messages
+EachFaultHasMessage Holds _ _ = ⊥
 
 -- there is one message for each error, in order, and each begins with the result of `head` for its error
 abbrev pub EachMessageBeginsWith : (JobError → List ℕ) → List JobError → List (List ℕ) → Type 0
@@ -30,8 +30,8 @@ AppendsLines count before after =
 
 -- the text went from `before` to `after` by appending a line for each error, in order, whose message satisfies the predicate
 abbrev pub AppendsLineOfEach : (JobError → List ℕ → Type 0) → List JobError → List ℕ → List ℕ → Type 0
-AppendsLineOfEach Is faults before after =
-    (messages : List (List ℕ)) × EachFaultHasMessage Is faults messages
+AppendsLineOfEach Holds faults before after =
+    (messages : List (List ℕ)) × EachFaultHasMessage Holds faults messages
     × (after ≡ before ++ flat_map printable_line messages)
 
 -- the text went from `before` to `after` by appending a line for each error, in order, whose message begins with the result of `head` for

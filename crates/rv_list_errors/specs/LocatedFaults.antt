@@ -38,11 +38,11 @@ IsFaultMessage path text fault message = IsFaultMessageInDocument path text (doc
 
 -- the text went from `before` to `after` by appending one or more lines, whose messages satisfy the predicate
 abbrev pub AppendsSomeLines : (List ℕ → Type 0) → List ℕ → List ℕ → Type 0
-AppendsSomeLines Is before after = (messages : List (List ℕ)) × (0 < length messages) × All Is messages
+AppendsSomeLines Holds before after = (messages : List (List ℕ)) × (0 < length messages) × All Holds messages
     × (after ≡ before ++ flat_map printable_line messages)
 
 -- the text went from `before` to `after` by appending one or more lines for each error, in order, whose messages satisfy the predicate
 abbrev pub AppendsLinesOfEach : (JobError → List ℕ → Type 0) → List JobError → List ℕ → List ℕ → Type 0
-AppendsLinesOfEach Is [] before after = after ≡ before
-AppendsLinesOfEach Is (fault ∷ faults) before after =
-    (middle : List ℕ) × AppendsSomeLines (Is fault) before middle × AppendsLinesOfEach Is faults middle after
+AppendsLinesOfEach Holds [] before after = after ≡ before
+AppendsLinesOfEach Holds (fault ∷ faults) before after =
+    (middle : List ℕ) × AppendsSomeLines (Holds fault) before middle × AppendsLinesOfEach Holds faults middle after

@@ -13,7 +13,7 @@ use Rattle.rv_list_errors.specs.declared.message.Message.{Message}
 
 -- either an allocation failed, or the message went from `before` to `after` by appending this text
 abbrev pub Adds : Message → Message → List ℕ → Type 0
-Adds before after text = OnOk after.grown (IsOk before.grown × (after.bytes.items ≡ before.bytes.items ++ text))
+Adds before after text = OnOk after.status (IsOk before.status × (after.bytes.items ≡ before.bytes.items ++ text))
 
 -- ---- the nearest name
 

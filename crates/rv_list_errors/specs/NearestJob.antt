@@ -17,7 +17,7 @@ job_name_distance text jobs index =
     levenshtein_row nat_eq (chars text) (chars name) (length (chars name))
 
 -- the job at index `index` has the first of the names that are nearest to the text
-pub record IsJobNameSuggestion (jobs : List Job) (text : List ℕ) (index : ℕ) : Type 0 where
+pub record IsNearestJob (jobs : List Job) (text : List ℕ) (index : ℕ) : Type 0 where
   pub within : index < length jobs
   pub least : (other : ℕ) → other < length jobs →
       job_name_distance text jobs index ≤ job_name_distance text jobs other

@@ -76,8 +76,8 @@ impl<'a> FaultLineWriter<'a> {
             (IsFaultMessageInList self.old.file.now self.old.cursor.text.now (borrowed_names self.old.list.names.items))
             faults.now bytes.old.items bytes.new.items) }
     {
-        for (at, fault) in faults.iter().enumerate() {
-            self.push_fault(alloc, bytes, *fault, suggestion_for_fault(at))?;
+        for (index, fault) in faults.iter().enumerate() {
+            self.push_fault(alloc, bytes, *fault, suggestion_for_fault(index))?;
         }
         Ok(())
     }

@@ -24,17 +24,17 @@ pub(crate) enum Explanation {
     Text(&'static str),
 }
 
-/// What is expected of the value of a key: the text `before`, the inserted text `rest`, and the text `behind`. If a text at the key is too
+/// What is expected of the value of a key: the text `before`, the inserted text `rest`, and the text `after`. If a text at the key is too
 /// long, `bytes` says how its length is shown.
 pub(crate) struct Expected {
     key: &'static str,
     before: &'static str,
-    rest: InsertedText,
-    behind: &'static str,
-    bytes: Bytes,
+    inserted: InsertedText,
+    after: &'static str,
+    bytes: ByteCount,
 }
 
-/// The text between the texts `before` and `behind` of an [`Expected`].
+/// The text between the texts `before` and `after` of an [`Expected`].
 #[derive(Clone, Copy)]
 enum InsertedText {
     Nothing,
@@ -46,173 +46,173 @@ enum InsertedText {
 
 /// Which number of bytes is shown for a text if this number exceeds the maximum.
 #[derive(Clone, Copy)]
-enum Bytes {
+enum ByteCount {
     /// No number.
-    Untold,
+    NotShown,
     /// The number of bytes of the text.
-    Each,
+    OfText,
     /// Half the number of bytes of the text: two hexadecimal digits represent one byte.
-    Pairs,
+    OfHexDigits,
 }
 
 pub(crate) const NAME: Expected = Expected {
     key: "name",
     before: "expected 1 to ",
-    rest: InsertedText::Maximum(MAX_NAME_LEN as u64),
-    behind: " ASCII letters, digits, \".\", \"_\" or \"-\"",
-    bytes: Bytes::Untold,
+    inserted: InsertedText::Maximum(MAX_NAME_LEN as u64),
+    after: " ASCII letters, digits, \".\", \"_\" or \"-\"",
+    bytes: ByteCount::NotShown,
 };
 
 pub(crate) const IMAGE: Expected = Expected {
     key: "image",
     before: "expected a path of 1 to ",
-    rest: InsertedText::Maximum(MAX_PATH_LEN as u64),
-    behind: " bytes",
-    bytes: Bytes::Each,
+    inserted: InsertedText::Maximum(MAX_PATH_LEN as u64),
+    after: " bytes",
+    bytes: ByteCount::OfText,
 };
 
 pub(crate) const BUDGET: Expected = Expected {
     key: "budget",
     before: "expected an integer from 1 to ",
-    rest: InsertedText::Maximum(MAX_BUDGET as u64),
-    behind: "",
-    bytes: Bytes::Untold,
+    inserted: InsertedText::Maximum(MAX_BUDGET as u64),
+    after: "",
+    bytes: ByteCount::NotShown,
 };
 
 pub(crate) const INPUT: Expected = Expected {
     key: "input",
     before: "expected at most ",
-    rest: InsertedText::Maximum(MAX_SCRIPT_LEN as u64),
-    behind: " bytes",
-    bytes: Bytes::Each,
+    inserted: InsertedText::Maximum(MAX_SCRIPT_LEN as u64),
+    after: " bytes",
+    bytes: ByteCount::OfText,
 };
 
 pub(crate) const INPUT_HEX: Expected = Expected {
     key: "input_hex",
     before: "expected at most ",
-    rest: InsertedText::Maximum(MAX_SCRIPT_LEN as u64),
-    behind: " bytes",
-    bytes: Bytes::Pairs,
+    inserted: InsertedText::Maximum(MAX_SCRIPT_LEN as u64),
+    after: " bytes",
+    bytes: ByteCount::OfHexDigits,
 };
 
 pub(crate) const HEX_PAIRS: Expected = Expected {
     key: "input_hex",
     before: "expected pairs of hexadecimal digits",
-    rest: InsertedText::Nothing,
-    behind: "",
-    bytes: Bytes::Untold,
+    inserted: InsertedText::Nothing,
+    after: "",
+    bytes: ByteCount::NotShown,
 };
 
 pub(crate) const LOAD: Expected = Expected {
     key: "load",
     before: "expected \"physical\" or \"virtual\"",
-    rest: InsertedText::Nothing,
-    behind: "",
-    bytes: Bytes::Untold,
+    inserted: InsertedText::Nothing,
+    after: "",
+    bytes: ByteCount::NotShown,
 };
 
 pub(crate) const SIGNATURE: Expected = Expected {
     key: "signature",
     before: "expected two symbol names of 1 to ",
-    rest: InsertedText::Maximum(MAX_SYMBOL_LEN as u64),
-    behind: " bytes each, without NUL bytes",
-    bytes: Bytes::Untold,
+    inserted: InsertedText::Maximum(MAX_SYMBOL_LEN as u64),
+    after: " bytes each, without NUL bytes",
+    bytes: ByteCount::NotShown,
 };
 
 pub(crate) const EXPECT_EXIT: Expected = Expected {
     key: "expect_exit",
     before: "expected an integer from 0 to ",
-    rest: InsertedText::Maximum(u32::MAX as u64),
-    behind: "",
-    bytes: Bytes::Untold,
+    inserted: InsertedText::Maximum(u32::MAX as u64),
+    after: "",
+    bytes: ByteCount::NotShown,
 };
 
 pub(crate) const NEGATIVE_EXIT: Expected = Expected {
     key: "expect_exit",
     before: "expected an integer from 0 to ",
-    rest: InsertedText::Maximum(u32::MAX as u64),
-    behind: "; for example, write -1 as 4294967295",
-    bytes: Bytes::Untold,
+    inserted: InsertedText::Maximum(u32::MAX as u64),
+    after: "; for example, write -1 as 4294967295",
+    bytes: ByteCount::NotShown,
 };
 
 pub(crate) const WITHOUT_SIGNATURE: Expected = Expected {
     key: "expect_signature",
     before: "cannot be used without \"signature\"",
-    rest: InsertedText::Nothing,
-    behind: "",
-    bytes: Bytes::Untold,
+    inserted: InsertedText::Nothing,
+    after: "",
+    bytes: ByteCount::NotShown,
 };
 
 pub(crate) const EXPECT_SIGNATURE: Expected = Expected {
     key: "expect_signature",
     before: "expected a path of 1 to ",
-    rest: InsertedText::Maximum(MAX_PATH_LEN as u64),
-    behind: " bytes",
-    bytes: Bytes::Each,
+    inserted: InsertedText::Maximum(MAX_PATH_LEN as u64),
+    after: " bytes",
+    bytes: ByteCount::OfText,
 };
 
 pub(crate) const EXPECT_CONSOLE: Expected = Expected {
     key: "expect_console",
     before: "expected at most ",
-    rest: InsertedText::Maximum(MAX_CONSOLE_LEN as u64),
-    behind: " bytes",
-    bytes: Bytes::Each,
+    inserted: InsertedText::Maximum(MAX_CONSOLE_LEN as u64),
+    after: " bytes",
+    bytes: ByteCount::OfText,
 };
 
 pub(crate) const EXPECT_CONSOLE_FILE: Expected = Expected {
     key: "expect_console_file",
     before: "expected a path of 1 to ",
-    rest: InsertedText::Maximum(MAX_PATH_LEN as u64),
-    behind: " bytes",
-    bytes: Bytes::Each,
+    inserted: InsertedText::Maximum(MAX_PATH_LEN as u64),
+    after: " bytes",
+    bytes: ByteCount::OfText,
 };
 
 pub(crate) const EXPECT_END: Expected = Expected {
     key: "expect_end",
     before: "expected \"budget\" or a fault kind: ",
-    rest: InsertedText::FaultKinds,
-    behind: "",
-    bytes: Bytes::Untold,
+    inserted: InsertedText::FaultKinds,
+    after: "",
+    bytes: ByteCount::NotShown,
 };
 
 pub(crate) const ISA: Expected = Expected {
     key: "isa",
     before: "expected \"rv32i\", \"rv32im\", \"rv32ic\" or \"rv32imc\"",
-    rest: InsertedText::Nothing,
-    behind: "",
-    bytes: Bytes::Untold,
+    inserted: InsertedText::Nothing,
+    after: "",
+    bytes: ByteCount::NotShown,
 };
 
 pub(crate) const ISA_WITH_A: Expected = Expected {
     key: "isa",
     before: "the A extension is not simulated: expected \"rv32i\", \"rv32im\", \"rv32ic\" or \"rv32imc\"",
-    rest: InsertedText::Nothing,
-    behind: "",
-    bytes: Bytes::Untold,
+    inserted: InsertedText::Nothing,
+    after: "",
+    bytes: ByteCount::NotShown,
 };
 
 pub(crate) const ISA_WITH_FLOATS: Expected = Expected {
     key: "isa",
     before: "the F and D extensions are not simulated: expected \"rv32i\", \"rv32im\", \"rv32ic\" or \"rv32imc\"",
-    rest: InsertedText::Nothing,
-    behind: "",
-    bytes: Bytes::Untold,
+    inserted: InsertedText::Nothing,
+    after: "",
+    bytes: ByteCount::NotShown,
 };
 
 pub(crate) const ISA_OF_64_BITS: Expected = Expected {
     key: "isa",
     before: "RV64 is not simulated: expected \"rv32i\", \"rv32im\", \"rv32ic\" or \"rv32imc\"",
-    rest: InsertedText::Nothing,
-    behind: "",
-    bytes: Bytes::Untold,
+    inserted: InsertedText::Nothing,
+    after: "",
+    bytes: ByteCount::NotShown,
 };
 
 pub(crate) const MISALIGNED: Expected = Expected {
     key: "misaligned",
     before: "expected \"fault\" or \"allow\"",
-    rest: InsertedText::Nothing,
-    behind: "",
-    bytes: Bytes::Untold,
+    inserted: InsertedText::Nothing,
+    after: "",
+    bytes: ByteCount::NotShown,
 };
 
 /// Returns what is expected of the value of a key that accepts only a few texts, or `None` for any other key.
@@ -249,13 +249,13 @@ fn push_expected(message: &mut Message, table: &Table, expected: &Expected)
 
 // Appends ` (BYTES bytes)` if `bytes` exceeds the maximum in `expected`, and then the text that says what is expected of the value.
 fn push_expected_text(message: &mut Message, bytes: u64, expected: &Expected)
-    ensures { Adds message.old message.new (bytes_text expected.now.rest bytes ++ (codes ": " ++ expected_text expected.now)) }
+    ensures { Adds message.old message.new (bytes_text expected.now.inserted bytes ++ (codes ": " ++ expected_text expected.now)) }
 {
-    push_byte_count(message, bytes, expected.rest);
+    push_byte_count(message, bytes, expected.inserted);
     message.push(": ");
     message.push(expected.before);
-    push_inserted_text(message, expected.rest);
-    message.push(expected.behind);
+    push_inserted_text(message, expected.inserted);
+    message.push(expected.after);
 }
 
 // Appends ` (BYTES bytes)` if `inserted` is a maximum and `bytes` exceeds it, and otherwise nothing.
@@ -313,7 +313,7 @@ fn reported_byte_count(table: &Table, expected: &Expected) -> u64
 
 // Returns the number of bytes that a text represents: its length, or half of it for hexadecimal digits. Returns 0 if there is no text, or
 // if the number is never shown.
-fn shown_byte_count(bytes: Bytes, text: Option<&str>) -> u64
+fn shown_byte_count(bytes: ByteCount, text: Option<&str>) -> u64
     ensures { result ≡ shown_byte_count bytes (text_length (borrowed_name text.entry)) }
 {
     let len = match text {
@@ -321,8 +321,8 @@ fn shown_byte_count(bytes: Bytes, text: Option<&str>) -> u64
         None => 0,
     };
     match bytes {
-        Bytes::Untold => 0,
-        Bytes::Each => len,
-        Bytes::Pairs => len / 2,
+        ByteCount::NotShown => 0,
+        ByteCount::OfText => len,
+        ByteCount::OfHexDigits => len / 2,
     }
 }

@@ -209,7 +209,7 @@ fn explanation_in_list(
     fault: JobError,
     suggestion: Suggestion,
 ) -> Result<Vec<u8>, AllocError>
-    ensures { IfOk result (λ told. ExplainsFaultOfList list.now fault told.items) }
+    ensures { IfOk result (λ explanation. ExplainsFaultOfList list.now fault explanation.items) }
 {
     let mut message = Message::new(alloc);
     if fault.job == 0 {

@@ -60,8 +60,8 @@ fn push_fault_lines(
         (λ fault message. HasHeadAndTail (ExplainsFaultInView view.now fault) (file.now ++ location_in_view view.now fault.job) message)
         faults.now bytes.old.items bytes.new.items) }
 {
-    for (at, fault) in faults.iter().enumerate() {
-        let message = message_of_fault(alloc, file, view, *fault, suggestion_for_fault(at))?;
+    for (index, fault) in faults.iter().enumerate() {
+        let message = message_of_fault(alloc, file, view, *fault, suggestion_for_fault(index))?;
         push_spans(
             bytes,
             &[Span::Printable(message.as_slice()), Span::Text("\n")],

@@ -84,7 +84,7 @@ fn push_fault_of_table(message: &mut Message, job: FaultyJob<'_>, kind: What)
             job.job_index,
             job.suggestion,
         ),
-        _ => push_fault_within_job(message, job.table, kind),
+        _ => push_own_fault(message, job.table, kind),
     }
 }
 
@@ -99,7 +99,7 @@ pub(crate) fn push_duplicate_name(message: &mut Message, list: &List<'_>, table:
 const UNIQUE_NAME: &str = "expected a unique name";
 
 // Appends the explanation of an error that does not depend on the other jobs.
-fn push_fault_within_job(message: &mut Message, table: &Table, kind: What)
+fn push_own_fault(message: &mut Message, table: &Table, kind: What)
     ensures { AppendsTextThat message.old message.new (ExplainsOwnFault kind (table_view table.now)) }
 {
     match kind {

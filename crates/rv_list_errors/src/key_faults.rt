@@ -98,7 +98,7 @@ impl<'a> FaultyJob<'a> {
             KeyFault::Unknown => push_unknown_key_of_job(message, key, self.suggestion),
             KeyFault::UnknownInRegion => push_unknown_region_key(message, self.table),
             KeyFault::WrongType(kind) => push_value_of_wrong_type(message, self.table, key, kind),
-            KeyFault::Expected(told) => push_explanation(message, self.table, told),
+            KeyFault::Expected(explanation) => push_explanation(message, self.table, explanation),
             KeyFault::DuplicateName => push_duplicate_name(message, self.list, self.table),
             KeyFault::NoEarlierJob => push_unknown_same_as(
                 message,
@@ -143,8 +143,8 @@ impl<'a> FaultyJob<'a> {
     ) -> Option<KeyFault> {
         match kind {
             ValueType::Text => self.text_fault(key, value.as_str().unwrap_or(""), earlier_keys),
-            ValueType::Number => wanted(number_fault(key, value.as_integer().unwrap_or(0))),
-            ValueType::Texts => wanted(signature_fault(elements_at_key(self.table, key))),
+            ValueType::Number => expected_fault(number_fault(key, value.as_integer().unwrap_or(0))),
+            ValueType::Texts => expected_fault(signature_fault(elements_at_key(self.table, key))),
             ValueType::Regions if has_region_with_unknown_key(self.table) => Some(
                 KeyFault::UnknownInRegion,
             ),
@@ -164,8 +164,8 @@ impl<'a> FaultyJob<'a> {
             "name" => self.name_fault(text),
             "same_as" if self.is_earlier_job(text) => None,
             "same_as" => Some(KeyFault::NoEarlierJob),
-            "input" | "input_hex" => wanted(self.input_fault(key, text, earlier_keys)),
-            _ => wanted(self.expectation_or_choice_fault(key, text, earlier_keys)),
+            "input" | "input_hex" => expected_fault(self.input_fault(key, text, earlier_keys)),
+            _ => expected_fault(self.expectation_or_choice_fault(key, text, earlier_keys)),
         }
     }
 
@@ -283,9 +283,9 @@ impl<'a> FaultyJob<'a> {
 }
 
 // Returns the `KeyFault` with this explanation, or `None` if there is no explanation.
-fn wanted(told: Option<Explanation>) -> Option<KeyFault> {
-    match told {
-        Some(told) => Some(KeyFault::Expected(told)),
+fn expected_fault(explanation: Option<Explanation>) -> Option<KeyFault> {
+    match explanation {
+        Some(explanation) => Some(KeyFault::Expected(explanation)),
         None => None,
     }
 }

@@ -120,8 +120,8 @@ fn push_nearest_key(message: &mut Message, text: &str)
     ensures { AppendsTextThat message.old message.new (BeginsWith []) }
 {
     let mut names = [None; 16];
-    for at in 0..names.len() {
-        names[at] = Some(JOB_KEYS[at].0);
+    for index in 0..names.len() {
+        names[index] = Some(JOB_KEYS[index].0);
     }
     match near_name(message, &names, text) {
         Some(key) => {

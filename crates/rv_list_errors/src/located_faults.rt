@@ -36,13 +36,13 @@ pub(crate) fn faults_of_job(
     requires { 0 < fault.job }
     ensures { IfOk result (λ faults. 0 < length faults.items) }
 {
-    let at = fault.job as usize - 1;
+    let index = fault.job as usize - 1;
     let mut found = Vec::new(alloc);
-    let text = jobs.get(at).copied().unwrap_or("");
-    if let Some(Value::Table(table)) = list.jobs.get(at) {
+    let text = jobs.get(index).copied().unwrap_or("");
+    if let Some(Value::Table(table)) = list.jobs.get(index) {
         let job = FaultyJob {
             list,
-            job_index: at,
+            job_index: index,
             table,
             suggestion,
         };
@@ -51,7 +51,7 @@ pub(crate) fn faults_of_job(
     }
     if found.is_empty() {
         let mut message = Message::new(alloc);
-        push_job_fault(&mut message, list, at, fault.what, suggestion);
+        push_job_fault(&mut message, list, index, fault.what, suggestion);
         found.push(LocatedFault {
             offset: list.offset_of_suffix(text),
             explanation: message.finish()?,

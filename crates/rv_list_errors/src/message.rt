@@ -21,28 +21,28 @@ use toml::Value;
 pub(crate) struct Message {
     alloc: Global,
     bytes: Vec<u8>,
-    grown: Result<(), AllocError>,
+    status: Result<(), AllocError>,
 }
 
 impl Message {
     /// Returns an empty message. Does not allocate.
     pub(crate) fn new(alloc: Global) -> Message
-        ensures grown { IsOk result.grown }
+        ensures no_error { IsOk result.status }
         ensures bytes { result.bytes.items ≡ [] }
     {
         Message {
             alloc,
             bytes: Vec::new(alloc),
-            grown: Ok(()),
+            status: Ok(()),
         }
     }
 
     /// Returns the whole text, or an error if an allocation failed.
     pub(crate) fn finish(self) -> Result<Vec<u8>, AllocError>
         ensures text { IfOk result (λ text. text ≡ self.bytes) }
-        ensures error { IsOk result ↔ IsOk self.grown }
+        ensures error { IsOk result ↔ IsOk self.status }
     {
-        self.grown?;
+        self.status?;
         Ok(self.bytes)
     }
 
@@ -50,8 +50,8 @@ impl Message {
     pub(crate) fn push(&mut self, text: &str)
         ensures { Adds self.old self.new text.now }
     {
-        if self.grown.is_ok() {
-            self.grown = push_text(&mut self.bytes, text);
+        if self.status.is_ok() {
+            self.status = push_text(&mut self.bytes, text);
         }
     }
 
@@ -59,8 +59,8 @@ impl Message {
     pub(crate) fn push_number(&mut self, number: u64)
         ensures { Adds self.old self.new (decimal number) }
     {
-        if self.grown.is_ok() {
-            self.grown = push_number(&mut self.bytes, number);
+        if self.status.is_ok() {
+            self.status = push_number(&mut self.bytes, number);
         }
     }
 
@@ -77,8 +77,8 @@ impl Message {
     pub(crate) fn push_hex_word(&mut self, word: u32)
         ensures { Adds self.old self.new (word_digits word) }
     {
-        if self.grown.is_ok() {
-            self.grown = push_word_digits(&mut self.bytes, word);
+        if self.status.is_ok() {
+            self.status = push_word_digits(&mut self.bytes, word);
         }
     }
 
@@ -97,12 +97,12 @@ impl Message {
         ensures { AppendsTextThat self.old self.new
             (λ shown. (text : List ℕ) × IsValueText false (view value.now) text × (shown ≡ printable_value text)) }
     {
-        if self.grown.is_err() {
+        if self.status.is_err() {
             return;
         }
         match value_in_toml(self.alloc, value) {
             Ok(text) => self.push_printable(text.as_str()),
-            Err(error) => self.grown = Err(error),
+            Err(error) => self.status = Err(error),
         }
     }
 
@@ -119,24 +119,24 @@ impl Message {
     pub(crate) fn push_printable(&mut self, text: &str)
         ensures { Adds self.old self.new (printable_value text.now) }
     {
-        if self.grown.is_ok() {
-            self.grown = push_printable_value(&mut self.bytes, text.as_bytes());
+        if self.status.is_ok() {
+            self.status = push_printable_value(&mut self.bytes, text.as_bytes());
         }
     }
 
     /// Returns the edit distance of two texts: the least number of characters to insert, delete or replace. Returns `usize::MAX` if an
     /// allocation fails, or if one failed earlier.
     pub(crate) fn edit_distance(&mut self, text: &str, other: &str) -> usize
-        ensures distance { OnOk self.new.grown (IsOk self.old.grown × (result ≡ text_distance text.now other.now)) }
+        ensures distance { OnOk self.new.status (IsOk self.old.status × (result ≡ text_distance text.now other.now)) }
         ensures unchanged { self.new.bytes ≡ self.old.bytes }
     {
-        if self.grown.is_err() {
+        if self.status.is_err() {
             return usize::MAX;
         }
         match levenshtein(self.alloc, text, other) {
             Ok(distance) => distance,
             Err(error) => {
-                self.grown = Err(error);
+                self.status = Err(error);
                 usize::MAX
             }
         }

@@ -1,7 +1,7 @@
 //! The job whose name is nearest to a text: the one that the user probably meant.
 
 ghost use Rattle.std.specs.Prelude.{◌≡◌, ◌↔◌, ◌<◌, ℕ, IfOk, IsTrue, MatchOption, length};
-ghost use Rattle.rv_list_errors.specs.NearestJob.{IsNear, IsNearJob, IsJobNameSuggestion, job_name, job_name_distance};
+ghost use Rattle.rv_list_errors.specs.NearestJob.{IsNear, IsNearJob, IsNearestJob, job_name, job_name_distance};
 
 use rv_lists::Job;
 use rv_lists::limits::MAX_NAME_LEN;
@@ -13,8 +13,8 @@ use strsim::levenshtein;
 /// text is longer than a name may be, which bounds the search time.
 pub fn near_job(alloc: Global, jobs: &[Job], text: &str) -> Result<Option<usize>, AllocError>
     ensures { IfOk result (λ near. MatchOption near
-        ((index : ℕ) → IsJobNameSuggestion jobs.now text.now index → IsNearJob jobs.now text.now index → ⊥)
-        (λ index. IsJobNameSuggestion jobs.now text.now index × IsNearJob jobs.now text.now index)) }
+        ((index : ℕ) → IsNearestJob jobs.now text.now index → IsNearJob jobs.now text.now index → ⊥)
+        (λ index. IsNearestJob jobs.now text.now index × IsNearJob jobs.now text.now index)) }
 {
     if text.len() > MAX_NAME_LEN {
         return Ok(None);
@@ -45,7 +45,7 @@ pub(crate) fn is_near(distance: usize, name: &str) -> bool
 // Returns the index of the first job whose name is nearest to a text, by the edit distance, or `None` if there are no jobs.
 fn nearest_job(alloc: Global, jobs: &[Job], text: &str) -> Result<Option<usize>, AllocError>
     ensures { IfOk result (λ nearest. MatchOption nearest (length jobs.now ≡ 0)
-        (λ index. IsJobNameSuggestion jobs.now text.now index)) }
+        (λ index. IsNearestJob jobs.now text.now index)) }
 {
     if jobs.is_empty() {
         return Ok(None);

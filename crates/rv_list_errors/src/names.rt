@@ -128,7 +128,7 @@ pub(crate) fn near_name<'a>(
     names: &[Option<&'a str>],
     text: &str,
 ) -> Option<&'a str>
-    ensures near { OnOk message.new.grown (IsOk message.old.grown
+    ensures near { OnOk message.new.status (IsOk message.old.status
         × IsNearName (borrowed_names names.now) text.now (borrowed_name result)) }
     ensures unchanged { message.new.bytes ≡ message.old.bytes }
 {
@@ -246,7 +246,7 @@ fn push_listed_name(message: &mut Message, name: &str, index: usize, count: usiz
 // may be.
 #[tactic(auto, unfolding(crate::specs::NearNames::name_distance))]
 fn name_distance(message: &mut Message, name: Option<&str>, text: &str) -> usize
-    ensures distance { OnOk message.new.grown (IsOk message.old.grown
+    ensures distance { OnOk message.new.status (IsOk message.old.status
         × (result ≡ name_distance text.now (borrowed_name name.entry))) }
     ensures unchanged { message.new.bytes ≡ message.old.bytes }
 {

@@ -39,7 +39,7 @@ fn shared_address(region: &Region, other: &Region) -> Option<u32>
 // Two overlapping regions, given by their indices, and the first address that they share.
 #[derive(Clone, Copy)]
 struct Overlap {
-    at: usize,
+    index: usize,
     later: usize,
     address: u32,
 }
@@ -58,10 +58,10 @@ pub(crate) fn push_region_overlap(message: &mut Message, regions: &[Region])
 
 // Appends the numbers of two regions that overlap, and the first address that they share.
 fn push_overlap(message: &mut Message, overlap: Overlap)
-    ensures { overlap.at + 1 < 2 ^ 64 → overlap.later + 1 < 2 ^ 64
-        → Adds message.old message.new (overlap_text overlap.at overlap.later overlap.address) }
+    ensures { overlap.index + 1 < 2 ^ 64 → overlap.later + 1 < 2 ^ 64
+        → Adds message.old message.new (overlap_text overlap.index overlap.later overlap.address) }
 {
-    push_region_number(message, overlap.at);
+    push_region_number(message, overlap.index);
     message.push(" and ");
     push_region_number(message, overlap.later);
     message.push(" overlap at 0x");
@@ -72,10 +72,10 @@ fn push_overlap(message: &mut Message, overlap: Overlap)
 // Returns the first two regions of a list that overlap, or `None` if none do.
 fn first_overlap(regions: &[Region]) -> Option<Overlap>
     ensures { MatchOption result (AreAllApart regions.now)
-        (λ overlap. IsFirstOverlap regions.now overlap.at overlap.later overlap.address) }
+        (λ overlap. IsFirstOverlap regions.now overlap.index overlap.later overlap.address) }
 {
-    for at in 0..regions.len() {
-        if let Some(overlap) = overlap_with_later(regions, at) {
+    for index in 0..regions.len() {
+        if let Some(overlap) = overlap_with_later(regions, index) {
             return Some(overlap);
         }
     }
@@ -83,15 +83,19 @@ fn first_overlap(regions: &[Region]) -> Option<Overlap>
 }
 
 // Returns the region at an index and the first later region that overlaps it, or `None` if none does.
-fn overlap_with_later(regions: &[Region], at: usize) -> Option<Overlap>
-    requires { at < length regions.now }
-    ensures { MatchOption result (IsDisjointFromRest regions.now at)
-        (λ overlap. (overlap.at ≡ at) × IsOverlap regions.now overlap.at overlap.later overlap.address
-        × IsApartBefore regions.now overlap.at overlap.later) }
+fn overlap_with_later(regions: &[Region], index: usize) -> Option<Overlap>
+    requires { index < length regions.now }
+    ensures { MatchOption result (IsDisjointFromRest regions.now index)
+        (λ overlap. (overlap.index ≡ index) × IsOverlap regions.now overlap.index overlap.later overlap.address
+        × IsApartBefore regions.now overlap.index overlap.later) }
 {
-    for later in at + 1..regions.len() {
-        if let Some(address) = shared_address(&regions[at], &regions[later]) {
-            return Some(Overlap { at, later, address });
+    for later in index + 1..regions.len() {
+        if let Some(address) = shared_address(&regions[index], &regions[later]) {
+            return Some(Overlap {
+                index,
+                later,
+                address,
+            });
         }
     }
     None

@@ -47,11 +47,11 @@ fn first_key_of_wrong_type<'k>(
     ensures { option_map (λ known. known.now) result ≡ find (has_wrong_type_at_key (table_view table.now)) keys.now }
 {
     keys.iter()
-        .find(|known| is_value_of_other_kind(table, known.0, known.1))
+        .find(|known| has_value_of_other_type(table, known.0, known.1))
 }
 
 // Whether a table has a value at a key, and the value does not have this type.
-fn is_value_of_other_kind(table: &Table, key: &str, kind: ValueType) -> bool
+fn has_value_of_other_type(table: &Table, key: &str, kind: ValueType) -> bool
     ensures { result ≡ not (is_absent_or (is_value_of_type kind) key.now (table_view table.now)) }
 {
     match value_at_key(table, key) {

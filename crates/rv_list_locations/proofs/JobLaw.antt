@@ -13,7 +13,7 @@ use Rattle.toml_parser.specs.Strings.{Key, key}
 use Rattle.toml.specs.Parse.{expression, header_key, key_equals, skip_bom}
 use Rattle.rv_list_locations.specs.declared.scan.ScanState.{ScanState}
 use Rattle.rv_list_locations.specs.declared.scan.ScanState.TheVariants.{Element, Table, Top}
-use Rattle.rv_list_locations.specs.JobStarts.{BeginsWithElement, BeginsWithJobHeader, IsInJobArray, IsLineOfJob, behind, opened}
+use Rattle.rv_list_locations.specs.JobStarts.{BeginsWithElement, BeginsWithJobHeader, IsInJobArray, IsLineOfJob, after_element, opened}
 use Rattle.rv_list_locations.specs.JobLocations.{Step, array_header, after_comma, after_equals, text_after_line, after_value, element}
 use Rattle.rv_list_locations.specs.JobLocations.{header, is_job, is_top, job_lines, job_texts_from, job_texts_of_step, keyed_entry}
 use Rattle.rv_list_locations.specs.JobLocations.{jobs_of_text, line_of_suffix, step, table_header}
@@ -161,7 +161,7 @@ element-is list text inside =
     (after_value-end text)
     (λ rest is far. record {
       job = λ _. inr (inside, eqb-false (first text) right_bracket other);
-      next = behind text rest inside is;
+      next = after_element text rest inside is;
       rest = end_of_end text rest (after_comma rest) far (after_comma-end rest);
     }))
 

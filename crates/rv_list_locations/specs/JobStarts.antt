@@ -14,7 +14,7 @@ BeginsWithJobHeader text = (rest : List ℕ) × (expression text ≡ Some ((([],
 pub data IsInJobArray (list : List ℕ) : List ℕ → Type 0 where
   opened : (index : ℕ) (value : List ℕ) → key_equals (drop index list) ≡ Some (([], codes "job"), value) →
       first value ≡ left_bracket → IsInJobArray list (skip_blank (drop 1 value))
-  behind : (element rest : List ℕ) → IsInJobArray list element → after_value element ≡ Some rest →
+  after_element : (element rest : List ℕ) → IsInJobArray list element → after_value element ≡ Some rest →
       IsInJobArray list (after_comma rest)
 
 -- the text is a suffix of the list's text, and begins with an element of an array `job = [..]`

@@ -177,7 +177,7 @@ fn scan_table_name(alloc: Global, header: &str) -> Result<Option<String>, ParseE
     requires { slice_index header.now 0 ≡ left_bracket }
     ensures { IfOk result (λ table_name. IfSome table_name (λ name. BeginsWithTable (string_bytes name) header.now)) }
 {
-    let (key, _) = dotted_key(alloc, after_brackets(header))?;
+    let (key, _) = dotted_key(alloc, header_key(header))?;
     match key.path.first() {
         Some(part) if part.as_str() == "job" => {
             let name = String::from_str(alloc, part_or_last(&key, 1))?;
@@ -189,7 +189,7 @@ fn scan_table_name(alloc: Global, header: &str) -> Result<Option<String>, ParseE
 
 /// Skips the opening brackets of the header with which a text begins, and returns the text from the header's key on.
 #[tactic(auto, unfolding(crate::specs::JobKeys::header_key))]
-pub(crate) fn after_brackets(header: &str) -> &str
+pub(crate) fn header_key(header: &str) -> &str
     requires { slice_index header.now 0 ≡ left_bracket }
     ensures { result.now ≡ header_key header.now }
 {

@@ -2,7 +2,7 @@
 
 ghost use Rattle.std.specs.Prelude.{◌≤◌, length};
 
-use crate::keys::{KeyContext, KeyStep, after_brackets, part_or_last, scan_key_step};
+use crate::keys::{KeyContext, KeyStep, header_key, part_or_last, scan_key_step};
 use crate::scan::{ScanState, Step, scan_step, skip_byte_order_mark};
 use crate::values::{skip_blank_lines, skip_token};
 use std::alloc::{AllocError, Global};
@@ -74,7 +74,7 @@ fn repeated_key_in_step<'a>(
         return repeated_key_in_inline_table(alloc, step, remaining);
     }
     if first(step) == b'[' {
-        let (key, _) = dotted_key(alloc, after_brackets(step))?;
+        let (key, _) = dotted_key(alloc, header_key(step))?;
         return Ok(Some(RepeatedKey { key, first: None }));
     }
     let entries = Entries {

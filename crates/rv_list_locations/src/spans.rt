@@ -79,8 +79,8 @@ fn push_value_span(
     requires { All (IsSpanIn text.now) spans.old.items }
     ensures { All (IsSpanIn text.now) spans.new.items }
 {
-    let (key, behind) = dotted_key(alloc, entry)?;
-    let value = skip_equals_sign(behind);
+    let (key, after_key) = dotted_key(alloc, entry)?;
+    let value = skip_equals_sign(after_key);
     let rest = skip_value(alloc, value)?;
     if key.path.is_empty() {
         spans.push(ValueSpan {

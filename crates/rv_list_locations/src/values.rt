@@ -2,7 +2,7 @@
 
 ghost use Rattle.std.specs.Prelude.{◌≡◌, ◌-◌, ◌^◌, ◌<◌, ◌≤◌, IfOk, length, min, slice_index, suc};
 ghost use Rattle.rv_list_locations.specs.JobLocations.{after_brackets, after_string_or_word, after_token, after_value};
-ghost use Rattle.toml_parser.specs.Lexical.{skip_blank as behind_blank};
+ghost use Rattle.toml_parser.specs.Lexical.{skip_blank as after_blank};
 ghost use Rattle.rv_list_locations.specs.JobLocations.{after_word, depth_after, is_in_word};
 ghost use Rattle.rv_list_locations.specs.Steps.{ReturnsText};
 
@@ -43,7 +43,7 @@ fn skip_brackets(alloc: Global, text: &str) -> Result<&str, ParseError>
 
 /// Skips the blanks, line ends and comments with which a text begins, and returns the rest of the text.
 pub(crate) fn skip_blank_lines(text: &str) -> &str
-    ensures rest { result.now ≡ behind_blank text.now }
+    ensures rest { result.now ≡ after_blank text.now }
     ensures within { length result.now ≤ length text.now }
 {
     skip_blank(text, true)

@@ -1,5 +1,5 @@
 pub mod Entries
-pub mod JobPlaces
+pub mod JobIndices
 pub mod Steps
 pub mod JobStages
 pub mod AllFaults

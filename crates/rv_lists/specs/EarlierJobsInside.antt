@@ -9,4 +9,4 @@ use Rattle.rv_base.specs.Names.{index_in}
 -- the invariant of the fields of `EarlierJobs`: the jobs form a valid list, and the map has the index of the first job with each name
 pub record IsValidEarlierJobs (a : Inside) : Type 0 where
   pub jobs : AreValidJobs a.jobs.items
-  pub places : (t : List ℕ) → get_by_text a.places t ≡ index_in (names_of_jobs a.jobs.items) t
+  pub indices : (t : List ℕ) → get_by_text a.indices t ≡ index_in (names_of_jobs a.jobs.items) t

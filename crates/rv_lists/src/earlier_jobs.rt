@@ -15,7 +15,7 @@ use std::marker::Model;
 #[derive(Drop)]
 pub(crate) struct EarlierJobs {
     jobs: Vec<Job>,
-    places: BTreeMap<String, usize>,
+    indices: BTreeMap<String, usize>,
 }
 
 impl Model for EarlierJobs {
@@ -38,7 +38,7 @@ impl EarlierJobs {
     {
         EarlierJobs {
             jobs: Vec::new(alloc),
-            places: BTreeMap::new(alloc),
+            indices: BTreeMap::new(alloc),
         }
     }
 
@@ -48,7 +48,7 @@ impl EarlierJobs {
         ensures within { IfSome result (λ k. k < length self.now) }
     {
         let _ = &self.jobs;
-        self.places.get(name).copied()
+        self.indices.get(name).copied()
     }
 
     /// Appends a job, whose name no earlier job has, and returns all the jobs.
@@ -60,12 +60,12 @@ impl EarlierJobs {
     {
         let EarlierJobs {
             mut jobs,
-            mut places,
+            mut indices,
         } = self;
         let name = String::from_str(alloc, job.name.as_str())?;
-        places.insert(name, jobs.len())?;
+        indices.insert(name, jobs.len())?;
         jobs.push(job)?;
-        Ok(EarlierJobs { jobs, places })
+        Ok(EarlierJobs { jobs, indices })
     }
 
     /// Returns the jobs as a list.

@@ -141,12 +141,12 @@ fetch_word_from c a =
     else None
 
 -- whether a fetch of the halfword at the address `a` succeeds
-abbrev pub is_clean_half : BusContents → ℕ → Bool
-is_clean_half c a = is_ok (fetch_half_from c a)
+abbrev pub can_fetch_half : BusContents → ℕ → Bool
+can_fetch_half c a = is_ok (fetch_half_from c a)
 
 -- whether a fetch of each halfword in the `n` bytes (2 or 4) at the address `a` succeeds
-unfoldable pub is_clean_range : BusContents → ℕ → ℕ → Bool
-is_clean_range c a n = is_clean_half c a && (not (n == 4) || is_clean_half c ((a + 2) % 0x1_0000_0000))
+unfoldable pub can_fetch_range : BusContents → ℕ → ℕ → Bool
+can_fetch_range c a n = can_fetch_half c a && (not (n == 4) || can_fetch_half c ((a + 2) % 0x1_0000_0000))
 
 -- the contents after FENCE.I: no address counts as stored to
 abbrev pub without_stored : BusContents → BusContents

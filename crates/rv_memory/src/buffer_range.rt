@@ -13,7 +13,7 @@ use crate::map::{Map, Region};
 /// Where the bytes of an access are in the concatenated bytes of all regions: the index of the first, and whether their region is writable.
 #[derive(Clone, Copy)]
 pub(crate) struct BufferRange {
-    pub(crate) at: usize,
+    pub(crate) start: usize,
     pub(crate) writable: bool,
 }
 
@@ -23,15 +23,15 @@ impl Map {
     /// Every fetch goes through here, and every load or store that [`Map::locate_in_first_region`] does not locate. Most maps have only one
     /// region, so the first one is tried without a loop.
     #[inline]
-    pub(crate) fn place(&self, addr: u32, len: u32) -> Option<BufferRange>
+    pub(crate) fn locate(&self, addr: u32, len: u32) -> Option<BufferRange>
         requires { 0 < len }
         ensures { MatchOption result (list_any (covers addr len) self.now ≡ false)
-            (λ p. IsStoredAt self.now addr len p.at p.writable) }
+            (λ p. IsStoredAt self.now addr len p.start p.writable) }
     {
         let first = &self.regions[0];
         if let Some(offset) = first.offset_of(addr, len) {
             return Some(BufferRange {
-                at: offset as usize,
+                start: offset as usize,
                 writable: first.writable,
             });
         }
@@ -43,12 +43,12 @@ impl Map {
     #[inline(always)]
     pub(crate) fn locate_in_first_region(&self, addr: u32, width: Width) -> Option<BufferRange>
         requires { addr % size_of width ≡ 0 }
-        ensures { IfSome result (λ p. IsStoredAt self.now addr (size_of width) p.at p.writable) }
+        ensures { IfSome result (λ p. IsStoredAt self.now addr (size_of width) p.start p.writable) }
     {
         let first = &self.regions[0];
         let offset = first.offset_of_aligned(addr, width)?;
         Some(BufferRange {
-            at: offset as usize,
+            start: offset as usize,
             writable: first.writable,
         })
     }
@@ -67,7 +67,7 @@ fn search_regions(regions: &[Region], start: usize, addr: u32, len: u32) -> Opti
     for region in regions {
         if let Some(offset) = region.offset_of(addr, len) {
             return Some(BufferRange {
-                at: at + offset as usize,
+                start: at + offset as usize,
                 writable: region.writable,
             });
         }

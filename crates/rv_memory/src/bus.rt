@@ -4,7 +4,7 @@ ghost use Rattle.std.specs.Prelude.{None, length};
 ghost use Rattle.rv_memory.specs.Regions.{is_in_one_region};
 ghost use Rattle.rv_memory.specs.Maps.{map_error};
 ghost use Rattle.rv_memory.specs.Inside.Places.{IsStoredAt};
-ghost use Rattle.rv_memory.specs.Bus.{size_of, load_from, store_to, fetch_half_from, fetch_word_from, is_clean_range};
+ghost use Rattle.rv_memory.specs.Bus.{size_of, load_from, store_to, fetch_half_from, fetch_word_from, can_fetch_range};
 ghost use Rattle.rv_memory.specs.Bus.{put, without_stored, with_bytes};
 
 use crate::access::{Misaligned, Width, read_value, read_word, write_value};
@@ -59,10 +59,10 @@ impl Bus {
         if bytes.is_empty() {
             return;
         }
-        let Some(place) = self.map.place(addr, bytes.len() as u32) else {
+        let Some(range) = self.map.locate(addr, bytes.len() as u32) else {
             unreachable!();
         };
-        self.bytes[place.at..place.at + bytes.len()].copy_from_slice(bytes);
+        self.bytes[range.start..range.start + bytes.len()].copy_from_slice(bytes);
     }
 
     /// Performs a load: returns the unsigned value at an address, or the reason why the load is rejected.
@@ -74,17 +74,17 @@ impl Bus {
             (λ e. (load_from self.old addr width ≡ Err e) × (self.new ≡ self.old)) }
     {
         if width.divides(addr) {
-            if let Some(place) = self.map.locate_in_first_region(addr, width) {
-                return Ok(read_value(&self.bytes, place.at, width));
+            if let Some(range) = self.map.locate_in_first_region(addr, width) {
+                return Ok(read_value(&self.bytes, range.start, width));
             }
         }
         if self.misaligned.rejects(addr, width) {
             return Err(BusFault::Misaligned);
         }
-        let Some(place) = self.map.place(addr, width.size()) else {
+        let Some(range) = self.map.locate(addr, width.size()) else {
             return self.load_console(addr, width);
         };
-        Ok(read_value(&self.bytes, place.at, width))
+        Ok(read_value(&self.bytes, range.start, width))
     }
 
     /// Performs a store: writes the low bytes of a value at an address and marks them as stored to, or returns the reason why the store is
@@ -96,9 +96,9 @@ impl Bus {
             (λ e. (store_to self.old addr width value ≡ Err e) × (self.new ≡ self.old)) }
     {
         if width.divides(addr) {
-            if let Some(place) = self.map.locate_in_first_region(addr, width) {
-                if place.writable {
-                    self.put(place, addr, width, value);
+            if let Some(range) = self.map.locate_in_first_region(addr, width) {
+                if range.writable {
+                    self.put(range, addr, width, value);
                     return Ok(());
                 }
             }
@@ -106,26 +106,26 @@ impl Bus {
         if self.misaligned.rejects(addr, width) {
             return Err(BusFault::Misaligned);
         }
-        let Some(place) = self.map.place(addr, width.size()) else {
+        let Some(range) = self.map.locate(addr, width.size()) else {
             return self.store_console(addr, width, value);
         };
-        if !place.writable {
+        if !range.writable {
             return Err(BusFault::Access);
         }
-        self.put(place, addr, width, value);
+        self.put(range, addr, width, value);
         Ok(())
     }
 
     // Writes the low bytes of a value at an address, whose bytes in memory are at `range`, and marks them as stored to.
     #[inline(always)]
     fn put(&mut self, range: BufferRange, addr: u32, width: Width, value: u32)
-        requires { IsStoredAt self.old.regions addr (size_of width) range.at range.writable }
+        requires { IsStoredAt self.old.regions addr (size_of width) range.start range.writable }
         ensures { self.new ≡ put self.old addr width value }
     {
         // Only the contract uses the address.
         let _ = addr;
-        write_value(&mut self.bytes, range.at, width, value);
-        mark(&mut self.marks, range.at, width, self.generation);
+        write_value(&mut self.bytes, range.start, width, value);
+        mark(&mut self.marks, range.start, width, self.generation);
     }
 
     /// Returns the halfword at an address, which may be odd, or the reason why the fetch is rejected.
@@ -133,16 +133,16 @@ impl Bus {
     pub fn fetch_half(&self, addr: u32) -> Result<u16, FetchFault>
         ensures { result ≡ fetch_half_from self.now addr }
     {
-        let Some(place) = self.map.place(addr, 2) else {
+        let Some(range) = self.map.locate(addr, 2) else {
             return Err(FetchFault::Unmapped);
         };
-        if self.marks[place.at] == self.generation {
+        if self.marks[range.start] == self.generation {
             return Err(FetchFault::Stale);
         }
-        if self.marks[place.at + 1] == self.generation {
+        if self.marks[range.start + 1] == self.generation {
             return Err(FetchFault::Stale);
         }
-        Ok(u16::from(self.bytes[place.at]) + 0x100 * u16::from(self.bytes[place.at + 1]))
+        Ok(u16::from(self.bytes[range.start]) + 0x100 * u16::from(self.bytes[range.start + 1]))
     }
 
     /// Returns the word at an address, or `None` if its four bytes are not in one region, or if one of them was stored to since the last
@@ -154,18 +154,18 @@ impl Bus {
         ensures halves { IfSome result (λ w. (fetch_half_from self.now addr ≡ Ok (w % 0x1_0000))
             × (fetch_half_from self.now ((addr + 2) % 0x1_0000_0000) ≡ Ok (w / 0x1_0000))) }
     {
-        let place = self.map.place(addr, 4)?;
-        if has_mark(&self.marks, place.at, self.generation) {
+        let range = self.map.locate(addr, 4)?;
+        if has_mark(&self.marks, range.start, self.generation) {
             return None;
         }
-        Some(read_word(&self.bytes, place.at))
+        Some(read_word(&self.bytes, range.start))
     }
 
     /// Whether [`Bus::fetch_half`] succeeds for each halfword in the `len` bytes (2 or 4) at an address, which may be odd.
-    #[tactic(auto, unfolding(crate::specs::Bus::is_clean_range))]
+    #[tactic(auto, unfolding(crate::specs::Bus::can_fetch_range))]
     pub fn clean(&self, addr: u32, len: u32) -> bool
         requires { (len ≡ 2) ⊎ (len ≡ 4) }
-        ensures { result ≡ is_clean_range self.now addr len }
+        ensures { result ≡ can_fetch_range self.now addr len }
     {
         self.fetch_half(addr).is_ok() && (len != 4 || self.fetch_half(addr.wrapping_add(2)).is_ok())
     }

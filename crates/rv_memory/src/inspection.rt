@@ -12,8 +12,8 @@ impl Bus {
     pub fn byte(&self, addr: u32) -> Option<u8>
         ensures { result ≡ fin.get self.now.memory addr }
     {
-        match self.map.place(addr, 1) {
-            Some(place) => Some(self.bytes[place.at]),
+        match self.map.locate(addr, 1) {
+            Some(range) => Some(self.bytes[range.start]),
             None => None,
         }
     }
@@ -22,8 +22,8 @@ impl Bus {
     pub fn is_stored(&self, addr: u32) -> bool
         ensures { result ≡ set.contains self.now.stored addr }
     {
-        match self.map.place(addr, 1) {
-            Some(place) => self.marks[place.at] == self.generation,
+        match self.map.locate(addr, 1) {
+            Some(range) => self.marks[range.start] == self.generation,
             None => false,
         }
     }

@@ -55,9 +55,9 @@ impl Bus {
         requires { IsTrue (is_in_one_region self.now.regions addr 4) }
         ensures { result ≡ word_at self.now.memory addr }
     {
-        let Some(place) = self.map.place(addr, WORD) else {
+        let Some(range) = self.map.locate(addr, WORD) else {
             unreachable!();
         };
-        read_word(&self.bytes, place.at)
+        read_word(&self.bytes, range.start)
     }
 }

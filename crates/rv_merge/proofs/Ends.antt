@@ -40,7 +40,7 @@ module _ (texts : List (List ℕ)) (shard : Shard) (sources : List (Option ℕ))
         let t = h.taken at within in
         let differ : t.n ≡ n → ⊥ = λ e.
         false≢true
-        (sym (ap is_some w.none) ∙ sym (ap (λ (k : ℕ). is_some (get_or sources (k - 1) None)) e) ∙ t.noted) in (
+        (sym (ap is_some w.none) ∙ sym (ap (λ (k : ℕ). is_some (get_or sources (k - 1) None)) e) ∙ t.has_source) in (
           t.n,
           subst (λ (b : List ℕ). IsReportWithExtent (extent.Shard (shard_in (run_of_shard shard) t.n)) b)
               (get_or_default texts at [] d within) t.of,

@@ -117,14 +117,14 @@ module _ (texts : List (List ℕ)) (at : ℕ) (shard : Shard) (sources : List (O
           record {
             n = part.number;
             of = of;
-            noted = ap is_some (get_or-set_same sources (part.number - 1) (Some at) None (omega arith));
+            has_source = ap is_some (get_or-set_same sources (part.number - 1) (Some at) None (omega arith));
             has = filled_has 0 max_jobs numbers rows slots listed.rising listed.counted number_within;
           }
 
       other_shard : (bytes : List ℕ) (t : IsPartAdded (run_of_shard shard) sources slots bytes) → t.n - 1 ≡ part.number - 1 → ⊥
       other_shard bytes t e =
           false≢true
-          (sym (ap is_some none) ∙ sym (ap (λ (k : ℕ). is_some (get_or sources k None)) e) ∙ t.noted)
+          (sym (ap is_some none) ∙ sym (ap (λ (k : ℕ). is_some (get_or sources k None)) e) ∙ t.has_source)
 
       apart : (bytes : List ℕ) (t : IsPartAdded (run_of_shard shard) sources slots bytes) (q n : ℕ)
           → slice_get t.of.report.numbers q ≡ Some n → (j m : ℕ) → slice_get numbers j ≡ Some m → m - 1 ≡ n - 1 → ⊥
@@ -151,7 +151,7 @@ module _ (texts : List (List ℕ)) (at : ℕ) (shard : Shard) (sources : List (O
           record {
             n = t.n;
             of = t.of;
-            noted = ap is_some (get_or-set_other sources (part.number - 1) (t.n - 1) (Some at) None ne) ∙ t.noted;
+            has_source = ap is_some (get_or-set_other sources (part.number - 1) (t.n - 1) (Some at) None ne) ∙ t.has_source;
             has = map_agree (λ (m : ℕ). get_or (filled_slots numbers rows slots) (m - 1) None)
                 (λ (m : ℕ). get_or slots (m - 1) None) t.of.report.numbers
                 (λ q n there. filled_other numbers rows slots (n - 1) (apart bytes t q n there))
@@ -261,7 +261,7 @@ pub is_unread : (place : ReadError) (bytes : List ℕ) → (place ≡ read.OutOf
 is_unread place bytes other only begins told = record {
   none = λ report saved text. other (only report saved text);
   begins = begins;
-  told = told;
+  error_is = told;
 }
 
 -- what holds of each number of a list holds of the list

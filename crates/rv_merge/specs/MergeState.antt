@@ -65,7 +65,7 @@ pub record IsPartAdded (run : Run) (sources : List (Option ℕ)) (slots : List (
     (bytes : List ℕ) : Type 0 where
   pub n : ℕ
   pub of : IsReportWithExtent (extent.Shard (shard_in run n)) bytes
-  pub noted : is_some (slice_index_or sources (n - 1) None) ≡ true
+  pub has_source : is_some (slice_index_or sources (n - 1) None) ≡ true
   pub has :
       map (λ m. slice_index_or slots (m - 1) None) of.report.numbers ≡ map Some of.report.rows
 

@@ -27,7 +27,7 @@ IsRowsOrOutOfMemory rows (Err e) = e ≡ error.OutOfMemory
 pub record IsInvalidReport (error : ReadError) (bytes : List ℕ) : Type 0 where
   pub none : (report : SavedReport) → IsValidReport report → saved_text report ≡ bytes → ⊥
   pub begins : (report : SavedReport) × IsValidReport report × AgreeBeforeError error (saved_text report) bytes
-  pub told : IsSameReadError error (first_read_error (saved_text (lenient_report bytes)) bytes)
+  pub error_is : IsSameReadError error (first_read_error (saved_text (lenient_report bytes)) bytes)
 
 -- the two texts are reports of shards for which the function `value` has different values
 pub record HaveDifferentValues {X : Type 0} (value : Shard → X) (bytes other_bytes : List ℕ) : Type 0 where

@@ -41,17 +41,17 @@ pub record IsRunOf (list : List Job) (run : Run) : Type 0 where
   pub few : run.shards ≤ max_jobs
   pub stamp : is_name run.stamp ≡ true
 
--- the bytes are the report of shard `n`; for each path that the shard's jobs need, its run had the same result of reading as `answers`
-pub record IsShardText (list : List Job) (answers : List PathResult) (run : Run) (n : ℕ)
+-- the bytes are the report of shard `n`; for each path that the shard's jobs need, its run had the same result of reading as `results`
+pub record IsShardText (list : List Job) (results : List PathResult) (run : Run) (n : ℕ)
     (bytes : List ℕ) : Type 0 where
   pub low : 0 < n
   pub high : n ≤ run.shards
   pub kept : List PathResult
-  pub same : All (HaveSameResults kept answers) (jobs_needed_for list (shard_indices run.shards n run.jobs))
+  pub same : All (HaveSameResults kept results) (jobs_needed_for list (shard_indices run.shards n run.jobs))
   pub text : bytes ≡ saved_text (shard_report run n (plan_of_jobs list kept))
 
 -- each text is the report of a shard that ran as `IsShardText` says, and each shard of the run has a text
-pub record AreShardTexts (list : List Job) (answers : List PathResult) (run : Run)
+pub record AreShardTexts (list : List Job) (results : List PathResult) (run : Run)
     (texts : List (List ℕ)) : Type 0 where
-  pub each : All (λ bytes. (n : ℕ) × IsShardText list answers run n bytes) texts
-  pub all : (n : ℕ) → 0 < n → n ≤ run.shards → Any (IsShardText list answers run n) texts
+  pub each : All (λ bytes. (n : ℕ) × IsShardText list results run n bytes) texts
+  pub all : (n : ℕ) → 0 < n → n ≤ run.shards → Any (IsShardText list results run n) texts

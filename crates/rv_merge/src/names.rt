@@ -14,13 +14,13 @@ pub(crate) fn first_repeated_name(alloc: Global, rows: &[Row]) -> Result<Option<
         (IsRepeatedName rows.now)) }
     ensures low { IfOk result (λ index. IfSome index (λ k. k < usize.MAX)) }
 {
-    let mut places: BTreeMap<&str, usize> = BTreeMap::new(alloc);
+    let mut first_indices: BTreeMap<&str, usize> = BTreeMap::new(alloc);
     for (at, row) in rows.iter().enumerate() {
         let name = row.name.as_str();
-        if places.contains_key(name) {
+        if first_indices.contains_key(name) {
             return Ok(Some(at));
         }
-        places.insert(name, at)?;
+        first_indices.insert(name, at)?;
     }
     Ok(None)
 }

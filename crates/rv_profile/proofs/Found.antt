@@ -4,7 +4,7 @@ use Rattle.std.specs.List.{AllByRecursion}
 use Rattle.rv_cover_view.specs.JobImages.{ImageFileView, image_of_file, images_of_files}
 use Rattle.rv_cover_view.specs.declared.image_file.ImageFile.{ImageFile}
 use Rattle.rv_count_tables.specs.declared.table.CountTable.{CountTable}
-use Rattle.rv_profile.specs.ImageStacks.{image_past_64_bits, is_past_64_bits}
+use Rattle.rv_profile.specs.ImageStacks.{overflowing_image, has_overflowing_sum}
 
 module _ {X : Type 0} where
   same : {x y : X} → Some x ≡ Some y → x ≡ y
@@ -45,18 +45,18 @@ found_in_files test (file ∷ files) = elim (test (image_of_file file))
     ]
 
 pub file_is_few : (table : CountTable) (files : List ImageFile) (k : ℕ) (d : ImageFile) → k < length files
-    → image_past_64_bits table (images_of_files files) ≡ None → is_past_64_bits table (image_of_file (get_or files k d)) ≡ false
+    → overflowing_image table (images_of_files files) ≡ None → has_overflowing_sum table (image_of_file (get_or files k d)) ≡ false
 file_is_few table files k d within none =
-    none_there (λ (file : ImageFile). is_past_64_bits table (image_of_file file)) files k d within
-    (none_of_map image_of_file _ (sym (found_in_files (is_past_64_bits table) files) ∙ none_of_map _ _ none))
+    none_there (λ (file : ImageFile). has_overflowing_sum table (image_of_file file)) files k d within
+    (none_of_map image_of_file _ (sym (found_in_files (has_overflowing_sum table) files) ∙ none_of_map _ _ none))
 
 path_of_map : (o : Option ImageFile) → option_map (λ image. image.path) (option_map image_of_file o) ≡ option_map (λ file. file.path.now) o
 path_of_map None = refl
 path_of_map (Some file) = refl
 
 -- the path of the first file that is past 64 bits
-pub path_past_64_bits : (table : CountTable) (files : List ImageFile) → image_past_64_bits table (images_of_files files)
-    ≡ option_map (λ file. file.path.now) (find (λ file. is_past_64_bits table (image_of_file file)) files)
-path_past_64_bits table files =
-    ap (option_map (λ image. image.path)) (found_in_files (is_past_64_bits table) files)
-    ∙ path_of_map (find (λ file. is_past_64_bits table (image_of_file file)) files)
+pub overflowing_image_path : (table : CountTable) (files : List ImageFile) → overflowing_image table (images_of_files files)
+    ≡ option_map (λ file. file.path.now) (find (λ file. has_overflowing_sum table (image_of_file file)) files)
+overflowing_image_path table files =
+    ap (option_map (λ image. image.path)) (found_in_files (has_overflowing_sum table) files)
+    ∙ path_of_map (find (λ file. has_overflowing_sum table (image_of_file file)) files)

@@ -48,9 +48,9 @@ abbrev pub if_fitting : Sums → Option Sums
 if_fitting sums = if fit_in_64_bits sums then Some sums else None
 
 -- whether the total steps or calls in the call tree that the table has for the image are 2^64 or more
-abbrev pub is_past_64_bits : CountTable → ImageFileView → Bool
-is_past_64_bits table image = not (fit_in_64_bits (sums_of (nodes_of table image.bytes)))
+abbrev pub has_overflowing_sum : CountTable → ImageFileView → Bool
+has_overflowing_sum table image = not (fit_in_64_bits (sums_of (nodes_of table image.bytes)))
 
 -- the path of the first image whose total steps or calls in the table are 2^64 or more, or `None` if there is none
-abbrev pub image_past_64_bits : CountTable → List ImageFileView → Option (List ℕ)
-image_past_64_bits table images = option_map (λ image. image.path) (find (is_past_64_bits table) images)
+abbrev pub overflowing_image : CountTable → List ImageFileView → Option (List ℕ)
+overflowing_image table images = option_map (λ image. image.path) (find (has_overflowing_sum table) images)

@@ -5,7 +5,7 @@ ghost use Rattle.std.specs.List.{list_any};
 ghost use Rattle.rv_count_tables.specs.Table.{IsValidImage, IsValidTable, functions_increase_from};
 ghost use Rattle.rv_cover_view.specs.JobImages.{image_of_file, images_of_files};
 ghost use Rattle.rv_count_tables.specs.Trees.{IsTree};
-ghost use Rattle.rv_profile.specs.ImageStacks.{has_stacks, image_past_64_bits, is_past_64_bits, has_nodes, names_of, nodes_of};
+ghost use Rattle.rv_profile.specs.ImageStacks.{has_stacks, overflowing_image, has_overflowing_sum, has_nodes, names_of, nodes_of};
 
 use crate::sums::sums_of;
 use rv_count_tables::{CallNode, CountTable, FunctionName, ImageCounts};
@@ -74,29 +74,31 @@ fn has_nodes(entry: &ImageCounts) -> bool
 }
 
 /// Returns the path of the first of these images whose total steps or calls in a table are 2^64 or more, or `None` if there is none.
-pub fn image_past_64_bits<'a>(table: &CountTable, images: &[ImageFile<'a>]) -> Option<&'a str>
-    ensures { option_map (λ path. path.now) result ≡ image_past_64_bits table.now (images_of_files images.now) }
+pub fn overflowing_image<'a>(table: &CountTable, images: &[ImageFile<'a>]) -> Option<&'a str>
+    ensures { option_map (λ path. path.now) result ≡ overflowing_image table.now (images_of_files images.now) }
 {
-    match first_past_64_bits(table, images) {
+    match first_overflowing_image(table, images) {
         Some(image) => Some(image.path),
         None => None,
     }
 }
 
 // Returns the first image whose total steps or calls in a table are 2^64 or more, or `None` if there is none.
-fn first_past_64_bits<'i, 'a>(
+fn first_overflowing_image<'i, 'a>(
     table: &CountTable,
     images: &'i [ImageFile<'a>],
 ) -> Option<&'i ImageFile<'a>>
     ensures { option_map (λ image. image.now) result
-        ≡ find (λ image. is_past_64_bits table.now (image_of_file image)) images.now }
+        ≡ find (λ image. has_overflowing_sum table.now (image_of_file image)) images.now }
 {
-    images.iter().find(|image| is_past_64_bits(table, image))
+    images
+        .iter()
+        .find(|image| has_overflowing_sum(table, image))
 }
 
 // Whether the total steps or calls of the image in a table are 2^64 or more.
-fn is_past_64_bits(table: &CountTable, image: &ImageFile<'_>) -> bool
-    ensures { result ≡ is_past_64_bits table.now (image_of_file image.now) }
+fn has_overflowing_sum(table: &CountTable, image: &ImageFile<'_>) -> bool
+    ensures { result ≡ has_overflowing_sum table.now (image_of_file image.now) }
 {
     let Some(entry) = entry_of_image(table, image.bytes) else {
         return false;

@@ -3,7 +3,7 @@
 ghost use Rattle.std.specs.Prelude.{◌≡◌, ◌++◌, IfOk, List, None, OnOk, false, ℕ};
 ghost use Rattle.rv_count_tables.specs.Table.{IsValidTable};
 ghost use Rattle.rv_cover_view.specs.JobImages.{image_of_file, images_of_files};
-ghost use Rattle.rv_profile.specs.ImageStacks.{image_past_64_bits, is_past_64_bits};
+ghost use Rattle.rv_profile.specs.ImageStacks.{overflowing_image, has_overflowing_sum};
 ghost use Rattle.rv_profile.specs.Profile.{profiles_of};
 ghost use Rattle.rv_profile.specs.ProfileText.{IsProfileText, IsImageProfileText, header_text, image_text};
 
@@ -26,7 +26,7 @@ pub fn profile_text(
     images: &[ImageFile<'_>],
 ) -> Result<Vec<u8>, AllocError>
     requires table { IsValidTable table.now }
-    requires fits { image_past_64_bits table.now (images_of_files images.now) ≡ None }
+    requires fits { overflowing_image table.now (images_of_files images.now) ≡ None }
     ensures { IfOk result (λ text. IsProfileText format table.now (images_of_files images.now) text.items) }
 {
     let mut text = Vec::new(alloc);
@@ -57,7 +57,7 @@ fn push_image(
     image: &ImageFile<'_>,
 ) -> Result<(), AllocError>
     requires table { IsValidTable table.now }
-    requires fits { is_past_64_bits table.now (image_of_file image.now) ≡ false }
+    requires fits { has_overflowing_sum table.now (image_of_file image.now) ≡ false }
     ensures { OnOk result ((shown : List ℕ) × (IsImageProfileText format table.now (image_of_file image.now) shown
         × (text.new.items ≡ text.old.items ++ shown))) }
 {

@@ -274,7 +274,7 @@ fn check_rows(
 
 // The functions of an image are sorted by own steps.
 #[test]
-fn functions_stand_by_own_steps(rt: HostRuntime) -> Result<(), Fail> {
+fn functions_are_sorted_by_own_steps(rt: HostRuntime) -> Result<(), Fail> {
     let alloc = rt.alloc();
     check_lines(alloc, TAIL, None, "build/tail.elf", TAIL_LINES)?;
     check_lines(alloc, TAIL, Some(30), "build/tail.elf", TAIL_LINES)?;

@@ -19,14 +19,14 @@ pub(crate) fn lenient_report(alloc: Global, text: &[u8]) -> Result<SavedReport, 
     ensures value { IfOk result (λ report. report ≡ lenient_report text.now) }
     ensures valid { IfOk result (λ report. IsValidReport report) }
 {
-    let gathering = read_rows(alloc, text)?;
-    let mut numbers = gathering.numbers;
-    let mut rows = gathering.rows;
+    let state = read_rows(alloc, text)?;
+    let mut numbers = state.numbers;
+    let mut rows = state.rows;
     rows.truncate(increasing_count(&numbers));
     let count = count_before_repeated_name(alloc, &rows)?;
     numbers.truncate(count);
     rows.truncate(count);
-    let extent = extent_or_selection(gathering.extent, &numbers);
+    let extent = extent_or_selection(state.extent, &numbers);
     Ok(SavedReport {
         extent,
         numbers: Numbers::new(numbers),

@@ -62,15 +62,15 @@ const MAX_WORDS: u32 = 65_536;
 pub fn read_rows(alloc: Global, text: &[u8]) -> Result<ReaderState, AllocError>
     ensures { IfOk result (λ g. reader_state_view g ≡ state_after_text text.now) }
 {
-    let mut gathering = initial_state(alloc)?;
+    let mut state = initial_state(alloc)?;
     let mut rest = text;
     while !rest.is_empty() {
         let end = index_of_byte(b'\n', rest);
-        read_line(alloc, &mut gathering, leading_bytes(rest, end))?;
+        read_line(alloc, &mut state, leading_bytes(rest, end))?;
         rest = tail_from(rest, end + 1);
     }
-    finish_unfinished_row(alloc, &mut gathering)?;
-    Ok(gathering)
+    finish_unfinished_row(alloc, &mut state)?;
+    Ok(state)
 }
 
 // Returns the state before the first line.

@@ -12,13 +12,13 @@ use std::collections::BTreeMap;
 pub fn count_before_repeated_name(alloc: Global, rows: &[Row]) -> Result<usize, AllocError>
     ensures { IfOk result (λ count. count ≡ count_before_repeated_name [] (row_names rows.now)) }
 {
-    let mut places: BTreeMap<&str, usize> = BTreeMap::new(alloc);
+    let mut first_indices: BTreeMap<&str, usize> = BTreeMap::new(alloc);
     for (at, row) in rows.iter().enumerate() {
         let name = row.name.as_str();
-        if places.contains_key(name) {
+        if first_indices.contains_key(name) {
             return Ok(at);
         }
-        places.insert(name, at)?;
+        first_indices.insert(name, at)?;
     }
     Ok(rows.len())
 }

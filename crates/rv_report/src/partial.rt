@@ -82,7 +82,7 @@ fn complete_row_count(
         let mut text = String::new(alloc);
         push_row(alloc, &mut text, numbers[at] as usize - 1, row)?;
         match rest.strip_prefix(text.as_bytes()) {
-            Some(behind) => rest = behind,
+            Some(tail) => rest = tail,
             None => return Ok(at),
         }
     }

@@ -78,18 +78,18 @@ fn first_read_error(text: &[u8], bytes: &[u8]) -> ReadError
     ensures { result ≡ read_error_from 1 word.NotStarted text.now bytes.now }
 {
     let mut line = 1;
-    let mut met = FirstWordState::NotStarted;
+    let mut word = FirstWordState::NotStarted;
     for (at, b) in bytes.iter().enumerate() {
         if at == text.len() {
             return ReadError::Line(line);
         }
         if *b != text[at] {
-            return read_error_at(line, met, text[at], &bytes[at..]);
+            return read_error_at(line, word, text[at], &bytes[at..]);
         }
         if *b == b'\n' {
             line += 1;
         }
-        met = met.word_after_byte(*b);
+        word = word.word_after_byte(*b);
     }
     ReadError::Truncated
 }

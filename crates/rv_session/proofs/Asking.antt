@@ -1,7 +1,7 @@
 -- A session is not over that a move is asked for in.
 use Rattle.std.proofs.Common.{◌≡◌, ◌∙◌, ◌&&◌, ℕ, List, Bool, true, false, Some, None, ap, inl, inr, refl}
 use Rattle.std.specs.Prelude.{Option, Result, Ok, Err, if◌then◌else◌, nat_le}
-use Rattle.rv_history.specs.Places.{last_step}
+use Rattle.rv_history.specs.RunSteps.{last_step}
 use Rattle.rv_history.specs.declared.stops.Stops.{Stops}
 use Rattle.rv_gdb_protocol.specs.ReaderStates.{state_after_byte, incoming_at}
 use Rattle.rv_gdb_protocol.specs.Packets.{request_of}

@@ -2,7 +2,7 @@
 use Rattle.std.proofs.Common.{◌≡◌, ◌∙◌, ◌<◌, ◌≤◌, ℕ, Bool, List, true, ap, arith, subst, sym}
 use Rattle.std.proofs.lemmas.Bool.{false≢true}
 use Rattle.rv_history.specs.Moves.{IsInterrupted, IsNextStep, IsForwardStop}
-use Rattle.rv_history.specs.Places.{IsReached, last_step}
+use Rattle.rv_history.specs.RunSteps.{IsReached, last_step}
 use Rattle.rv_history.specs.declared.bounds.Bounds.{Bounds}
 use Rattle.rv_history.specs.declared.bounds.Bounds.TheVariants as bounds
 use Rattle.rv_history.specs.declared.outcome.MoveResult.{MoveResult}

@@ -1,7 +1,7 @@
 -- The run stays the same, whatever is fed.
 use Rattle.std.proofs.Common.{◌≡◌, ◌∙◌, ◌&&◌, ℕ, List, Bool, true, false, Some, None, ap, refl}
 use Rattle.std.specs.Prelude.{Result, Ok, Err, Option, if◌then◌else◌, nat_le}
-use Rattle.rv_history.specs.Places.{last_step}
+use Rattle.rv_history.specs.RunSteps.{last_step}
 use Rattle.rv_gdb_protocol.specs.ReaderStates.{state_after_byte, incoming_at}
 use Rattle.rv_gdb_protocol.specs.Packets.{request_of}
 use Rattle.rv_gdb_protocol.specs.declared.frame.Incoming.{Incoming}

@@ -1,6 +1,6 @@
 -- The console output that was sent to gdb.
 use Rattle.std.specs.Prelude.{ℕ, List, ◌≡◌, ◌≤◌, length, take}
-use Rattle.rv_history.specs.Places.{last_step}
+use Rattle.rv_history.specs.RunSteps.{last_step}
 use Rattle.rv_session.specs.Sessions.{state_at}
 use Rattle.rv_session.specs.declared.session.Session.{Session}
 

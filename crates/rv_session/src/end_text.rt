@@ -6,7 +6,7 @@ use std::alloc::{AllocError, Global};
 /// A source of the text that describes the end of a run.
 pub trait EndText {
     ghost use Rattle.std.specs.Prelude.{◌≡◌, ◌++◌, ℕ, List, OnOk};
-    ghost use Rattle.rv_history.specs.Places.{IsReached};
+    ghost use Rattle.rv_history.specs.RunSteps.{IsReached};
     ghost use Rattle.rv_history.specs.Machine.{state_of};
     ghost use Rattle.rv_history.specs.State.{State};
 

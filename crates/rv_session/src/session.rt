@@ -1,7 +1,7 @@
 //! A gdb session.
 
 ghost use Rattle.std.specs.Prelude.{◌≡◌, ◌≤◌, IfOk, is_some};
-ghost use Rattle.rv_history.specs.Places.{last_step};
+ghost use Rattle.rv_history.specs.RunSteps.{last_step};
 ghost use Rattle.rv_session.specs.Sessions.{at_start};
 
 use crate::program::Program;

@@ -1,1 +1,1 @@
-pub mod Talks
+pub mod Sessions

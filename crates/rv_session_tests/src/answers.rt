@@ -4,7 +4,7 @@ ghost use Rattle.std.specs.Prelude.{◌≡◌, OnOk, false, is_some};
 ghost use Rattle.std.specs.Coded.{Coded-set};
 ghost use Rattle.rv_session.specs.Starts.{start_of};
 ghost use Rattle.rv_session.proofs.Public.{state_code};
-ghost use Rattle.rv_session_tests.specs.Talks.{IsReady};
+ghost use Rattle.rv_session_tests.specs.Sessions.{IsReady};
 
 use rv_session::{
     Bus, Bytes, EndText, Interrupt, Isa, Machine, Map, Misaligned, Program, Region, Session, Start,
@@ -105,7 +105,7 @@ impl EndText for End {
     fn push_end_text(
         &self,
         _alloc: Global,
-        _place: u32,
+        _steps: u32,
         _machine: &Machine,
         text: &mut Vec<u8>,
     ) -> Result<(), AllocError> {
@@ -134,7 +134,7 @@ struct TestSession {
     session: Session,
     end: End,
     ghost same_run: { start_of end.start ≡ session.history.start } by { Coded-set state_code (start_of end.start) session.history.start },
-    ghost unasked: { is_some session.requested ≡ false },
+    ghost no_request: { is_some session.requested ≡ false },
 }
 
 // Receives a byte, and appends the bytes that are sent in reply. If the byte completes a request that runs the job, runs it and appends the
@@ -149,13 +149,13 @@ fn send_byte(
     requires { IsReady (start_of end.now.start) session.old }
     ensures { OnOk result (IsReady (start_of end.now.start) session.new) }
 {
-    let told = session.receive(alloc, byte)?;
-    sent.extend_from_slice(told.as_slice())?;
+    let reply = session.receive(alloc, byte)?;
+    sent.extend_from_slice(reply.as_slice())?;
     if !session.is_move_requested() {
         return Ok(());
     }
-    let told = session.work(alloc, end, &mut Never)?;
-    sent.extend_from_slice(told.as_slice())?;
+    let reply = session.work(alloc, end, &mut Never)?;
+    sent.extend_from_slice(reply.as_slice())?;
     Ok(())
 }
 
@@ -164,13 +164,13 @@ fn response_text(
     alloc: Global,
     session: &mut Session,
     end: &End,
-    heard: &[u8],
+    bytes: &[u8],
 ) -> Result<String, Fail>
     requires { IsReady (start_of end.now.start) session.old }
     ensures { OnOk result (IsReady (start_of end.now.start) session.new) }
 {
     let mut sent = Vec::new(alloc);
-    for byte in heard {
+    for byte in bytes {
         send_byte(alloc, session, end, *byte, &mut sent)?;
     }
     let text = std::str::from_utf8(sent.as_slice())?;
@@ -232,10 +232,10 @@ fn framed(alloc: Global, bodies: &str) -> Result<Vec<u8>, Fail> {
 
 // Returns the session of a line of the table, without acknowledgements.
 fn session_of_line(alloc: Global, line: &str) -> Result<TestSession, Fail> {
-    let talk = session_of(alloc, cell_of(line, 1), cell_of(line, 2).parse()?)?;
-    let TestSession { mut session, end } = talk;
-    let met = response_text(alloc, &mut session, &end, b"+$QStartNoAckMode#b0")?;
-    check_equal(line, met.as_str(), "+$OK#9a")?;
+    let test_session = session_of(alloc, cell_of(line, 1), cell_of(line, 2).parse()?)?;
+    let TestSession { mut session, end } = test_session;
+    let actual = response_text(alloc, &mut session, &end, b"+$QStartNoAckMode#b0")?;
+    check_equal(line, actual.as_str(), "+$OK#9a")?;
     Ok(TestSession { session, end })
 }
 
@@ -264,16 +264,22 @@ fn check_response(
     requires { IsReady (start_of end.now.start) session.old }
     ensures { OnOk result (IsReady (start_of end.now.start) session.new) }
 {
-    let (asked, wanted) = part.split_once(" > ").ok_or("expected a request and its reply")?;
-    let met = response_to_body(alloc, session, end, asked)?;
-    let wanted = framed(alloc, wanted)?;
-    check_equal(line, met.as_str(), std::str::from_utf8(wanted.as_slice())?)
+    let (request, expected) = part
+        .split_once(" > ")
+        .ok_or("expected a request and its reply")?;
+    let actual = response_to_body(alloc, session, end, request)?;
+    let packets = framed(alloc, expected)?;
+    check_equal(
+        line,
+        actual.as_str(),
+        std::str::from_utf8(packets.as_slice())?,
+    )
 }
 
 // Makes the requests of a line's dialogue in order, and checks the replies.
 fn check_dialogue(alloc: Global, line: &str) -> Result<(), Fail> {
-    let talk = session_of_line(alloc, line)?;
-    let TestSession { mut session, end } = talk;
+    let test_session = session_of_line(alloc, line)?;
+    let TestSession { mut session, end } = test_session;
     for part in cell_of(line, 3).split(" / ") {
         check_response(alloc, &mut session, &end, line, part)?;
     }
@@ -295,10 +301,12 @@ fn check_recording(alloc: Global, session: &mut Session, end: &End, line: &str) 
     requires { IsReady (start_of end.now.start) session.old }
     ensures { OnOk result (IsReady (start_of end.now.start) session.new) }
 {
-    let (heard, wanted) = line.split_once(" > ").ok_or("expected bytes and their reply")?;
-    let wanted = if wanted == "nothing" { "" } else { wanted };
-    let met = response_text(alloc, session, end, heard.as_bytes())?;
-    check_equal(line, met.as_str(), wanted)
+    let (bytes, expected) = line
+        .split_once(" > ")
+        .ok_or("expected bytes and their reply")?;
+    let expected = if expected == "nothing" { "" } else { expected };
+    let actual = response_text(alloc, session, end, bytes.as_bytes())?;
+    check_equal(line, actual.as_str(), expected)
 }
 
 // The packets of a recorded session with LLDB have the recorded replies.

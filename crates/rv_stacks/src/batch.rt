@@ -46,8 +46,8 @@ pub fn count_batch_with_stacks<R: Threads + Wait + Sync>(
     crew: &Crew<'_, R>,
     batch: &Batch<'_>,
 ) -> Result<CountTable, CountError>
-    ensures value { IfOk result (IsTableWithStacks batch.now.plan.now batch.now.places.now) }
-    ensures error { IfErr result (IsCountError batch.now.plan.now batch.now.places.now) }
+    ensures value { IfOk result (IsTableWithStacks batch.now.plan.now batch.now.indices.now) }
+    ensures error { IfErr result (IsCountError batch.now.plan.now batch.now.indices.now) }
     ensures reasons { IfErr result IsOfRunNamesOrMemory }
 {
     let work = StackWork { batch };

@@ -65,10 +65,10 @@ fn machine_of(alloc: Global, program: &str) -> Result<Machine, Fail> {
 // Returns the ELF file with functions at these addresses. Its other function symbols are at 0, where there is no code.
 fn file_of(alloc: Global, functions: &str) -> Result<Vec<u8>, Fail> {
     let mut bytes = file_bytes(alloc, FILE)?;
-    let mut places = functions.split(' ');
+    let mut addresses = functions.split(' ');
     for at in VALUES {
-        let value = match places.next() {
-            Some(place) => hex_of(place)?,
+        let value = match addresses.next() {
+            Some(address) => hex_of(address)?,
             None => 0,
         };
         for (k, byte) in value.to_le_bytes().iter().enumerate() {
@@ -87,16 +87,16 @@ fn nodes_text(alloc: Global, row: &str) -> Result<String, Fail> {
     let image = read_image(alloc, bytes.as_slice(), Isa::Imc)?;
     let symbols = CodeSymbols::new(alloc, &image, bytes.as_slice())?;
     let budget = cell_of(row, 1).parse::<u32>()?;
-    let (_, spots) = count_with_stacks(
+    let (_, nodes) = count_with_stacks(
         alloc,
         machine_of(alloc, cell_of(row, 3))?,
         budget,
         &symbols,
     )?;
     let mut text = String::new(alloc);
-    for spot in spots.as_slice() {
+    for node in nodes.as_slice() {
         let comma = if text.is_empty() { "" } else { ", " };
-        let (depth, function, calls, steps) = (spot.depth, spot.function, spot.calls, spot.steps);
+        let (depth, function, calls, steps) = (node.depth, node.function, node.calls, node.steps);
         write!(text, "{comma}{depth} {function:08x} {calls} {steps}")?;
     }
     Ok(text)

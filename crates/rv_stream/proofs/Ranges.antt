@@ -74,7 +74,7 @@ module _ (row_text : ℕ → Row → List ℕ) (batch : Batch) where
             (subst (λ n. IsReportedRow row_text batch n (get_or more j any)) here (are.each j any (omega (arith, past, lt, long))))
       ]
 
-  module _ (ranges : List IndexRange) (are : AreIndexRanges batch.plan.now batch.places.now ranges) where
+  module _ (ranges : List IndexRange) (are : AreIndexRanges batch.plan.now batch.indices.now ranges) where
     -- the rows of some ranges from one on, after those of all earlier ranges
     record AreRowsTo (count : ℕ) (rows : List ReportedRow) : Type 0 where
       first : AreFirstRows rows
@@ -119,7 +119,7 @@ module _ (row_text : ℕ → Row → List ℕ) (batch : Batch) where
         (λ j any low. let e : j ≡ 0 + j = omega arith in
         subst (λ n. IsReportedRange row_text batch (range_at ranges n) (get_or reported j any)) e (each j any low)))
 
-    start_within : (n : ℕ) → n ≤ length ranges → range_start ranges n ≤ length batch.places.now
+    start_within : (n : ℕ) → n ≤ length ranges → range_start ranges n ≤ length batch.indices.now
     start_within zero few = omega arith
     start_within (suc n) few = (are.each n (omega (arith, few))).within
 
@@ -131,7 +131,7 @@ module _ (row_text : ℕ → Row → List ℕ) (batch : Batch) where
       IsRange n r = IsReportedRange row_text batch (range_at ranges n) r
 
       -- the rows of the first ranges, and perhaps not the last ones of them
-      some_rows : (n : ℕ) → HasReceived IsRange (length ranges) HaveSeen n → HasReceivedSome (IsReportedRow row_text batch) (length batch.places.now) has_received
+      some_rows : (n : ℕ) → HasReceived IsRange (length ranges) HaveSeen n → HasReceivedSome (IsReportedRow row_text batch) (length batch.indices.now) has_received
       some_rows n hears =
           let count = hears.count_is in
           let few = hears.few in
@@ -155,7 +155,7 @@ module _ (row_text : ℕ → Row → List ℕ) (batch : Batch) where
 
       -- the rows of all ranges
       all_rows : HasReceived IsRange (length ranges) HaveSeen (length ranges) → (stops → ⊥)
-          → HasReceived (IsReportedRow row_text batch) (length batch.places.now) has_received (length batch.places.now)
+          → HasReceived (IsReportedRow row_text batch) (length batch.indices.now) has_received (length batch.indices.now)
       all_rows hears goes =
           let count = hears.count_is in
           let more = hears.received.1 in
@@ -163,7 +163,7 @@ module _ (row_text : ℕ → Row → List ℕ) (batch : Batch) where
           let none = more.all goes in
           let same : more.first ≡ rows_of_ranges hears.results =
           sym (append-nil more.first) ∙ ap (λ rest. more.first ++ rest) (sym none) ∙ more.whole in
-          let all : length (rows_of_ranges hears.results) ≡ length batch.places.now =
+          let all : length (rows_of_ranges hears.results) ≡ length batch.indices.now =
           rows.long ∙ ap (range_start ranges) count ∙ are.all in record {
             results = more.first;
             received = more.received;
@@ -175,14 +175,14 @@ module _ (row_text : ℕ → Row → List ℕ) (batch : Batch) where
       -- a run of ranges is one of their rows, and without a sum it failed
       pub rows_delivered : (failed : Option SumError) (ran : Result Flow RunError)
           → IsRunDelivered IsRange (length ranges) HaveSeen ((is_some failed ≡ true) ⊎ stops) ran
-          → IsRunDelivered (IsReportedRow row_text batch) (length batch.places.now) has_received stops (outcome_with_sum failed ran)
+          → IsRunDelivered (IsReportedRow row_text batch) (length batch.indices.now) has_received stops (outcome_with_sum failed ran)
       rows_delivered None (Ok Continue) h = (all_rows h.0 (λ s. h.1 (inr s)), λ s. h.1 (inr s))
       rows_delivered None (Ok Stop) h =
-          (some_rows h.0.count h.0.hears, elim h.1 [ inl some ↦ absurd (false≢true some) | inr s ↦ s ])
-      rows_delivered None (Err error) h = some_rows h.count h.hears
+          (some_rows h.0.count h.0.received, elim h.1 [ inl some ↦ absurd (false≢true some) | inr s ↦ s ])
+      rows_delivered None (Err error) h = some_rows h.count h.received
       rows_delivered (Some error) (Ok Continue) h = absurd (h.1 (inl refl))
-      rows_delivered (Some error) (Ok Stop) h = some_rows h.0.count h.0.hears
-      rows_delivered (Some error) (Err why) h = some_rows h.count h.hears
+      rows_delivered (Some error) (Ok Stop) h = some_rows h.0.count h.0.received
+      rows_delivered (Some error) (Err why) h = some_rows h.count h.received
 
     -- ---- the table of a run to its end
 
@@ -191,7 +191,7 @@ module _ (row_text : ℕ → Row → List ℕ) (batch : Batch) where
       AreAdded failed reported = AreTablesAdded sum failed (map (λ (r : ReportedRange). r.table) reported) × has_received reported
 
       tables_of_ranges : HasReceived (λ n r. IsReportedRange row_text batch (range_at ranges n) r) (length ranges) (AreAdded None) (length ranges)
-          → HasReceived (λ n u. IsTableOfRange batch.plan.now (indices_in batch.places.now (range_at ranges n)) u) (length ranges)
+          → HasReceived (λ n u. IsTableOfRange batch.plan.now (indices_in batch.indices.now (range_at ranges n)) u) (length ranges)
           (λ ts. AreTablesAdded sum None (map (λ (u : CountTable). u) ts)) (length ranges)
       tables_of_ranges hears =
           let table = λ (r : ReportedRange). r.table in
@@ -206,19 +206,19 @@ module _ (row_text : ℕ → Row → List ℕ) (batch : Batch) where
           table_each : (reported : List ReportedRange)
               → ((k : ℕ) (any : ReportedRange) → k < length reported → IsReportedRange row_text batch (range_at ranges k) (get_or reported k any))
               → (k : ℕ) (any : CountTable) → k < length reported
-              → IsTableOfRange batch.plan.now (indices_in batch.places.now (range_at ranges k)) (get_or (map (λ (r : ReportedRange). r.table) reported) k any)
+              → IsTableOfRange batch.plan.now (indices_in batch.indices.now (range_at ranges k)) (get_or (map (λ (r : ReportedRange). r.table) reported) k any)
           table_each [] each k any lt = absurd (omega (arith, lt))
           table_each (r ∷ rs) each k any lt =
-              subst (IsTableOfRange batch.plan.now (indices_in batch.places.now (range_at ranges k)))
+              subst (IsTableOfRange batch.plan.now (indices_in batch.indices.now (range_at ranges k)))
               (sym (get_or-map (λ (r : ReportedRange). r.table) (r ∷ rs) k r any lt)) (each k r lt).table
 
       -- the outcome of a run with a sum is `Continue` only if the run has come to its end, and then the sum is the table of its jobs
       pub table_counted : (failed : Option SumError) (ran : Result Flow RunError)
           → IsRunDelivered (λ n r. IsReportedRange row_text batch (range_at ranges n) r) (length ranges) (AreAdded failed)
           ((is_some failed ≡ true) ⊎ stops) ran
-          → outcome_with_sum failed ran ≡ Ok Continue → (table : CountTable) × ((sum_or_error sum failed ≡ Ok table) × IsTableOfJobsAt batch.plan.now batch.places.now table)
+          → outcome_with_sum failed ran ≡ Ok Continue → (table : CountTable) × ((sum_or_error sum failed ≡ Ok table) × IsTableOfJobsAt batch.plan.now batch.indices.now table)
       table_counted None (Ok Continue) h is =
-          (sum, (refl, all_counted batch.plan.now batch.places.now ranges are sum None Continue (tables_of_ranges h.0, λ some. false≢true some)))
+          (sum, (refl, all_counted batch.plan.now batch.indices.now ranges are sum None Continue (tables_of_ranges h.0, λ some. false≢true some)))
       table_counted None (Ok Stop) h is = cc
       table_counted None (Err error) h is = cc
       table_counted (Some error) (Ok flow) h is = cc
@@ -254,29 +254,29 @@ module _ (row_text : ℕ → Row → List ℕ) (batch : Batch) (range : IndexRan
       }
 
   -- the row with a number in a range
-  pub row_in_range : (rows : List Row) (k : ℕ) (row : Row) → range.end ≤ length batch.places.now → k < length rows
-      → rows ≡ rows_at batch.plan.now (indices_in batch.places.now range) → get_or rows k row ≡ row
+  pub row_in_range : (rows : List Row) (k : ℕ) (row : Row) → range.end ≤ length batch.indices.now → k < length rows
+      → rows ≡ rows_at batch.plan.now (indices_in batch.indices.now range) → get_or rows k row ≡ row
       → row ≡ row_of_number batch (range.begin + k)
   unfolding rows_at
   row_in_range rows k row within lt are is =
       let no_job = single_job [] 0 [] in
       let row_at = λ (i : ℕ). row_of batch.plan.now (get_or batch.plan.now.jobs i no_job) in
-      let indices = indices_in batch.places.now range in
+      let indices = indices_in batch.indices.now range in
       let long = ap length are ∙ length-map indices row_at in
-      let most = length-take (range.end - range.begin) (drop range.begin batch.places.now) in
+      let most = length-take (range.end - range.begin) (drop range.begin batch.indices.now) in
       sym is ∙ ap (λ rs. get_or rs k row) are ∙ get_or-map row_at indices k 0 row (omega (arith, lt, long))
-      ∙ ap row_at (get_or-take (range.end - range.begin) (drop range.begin batch.places.now) k 0 (omega (arith, lt, long, most))
-      ∙ get_or-drop range.begin batch.places.now k 0)
+      ∙ ap row_at (get_or-take (range.end - range.begin) (drop range.begin batch.indices.now) k 0 (omega (arith, lt, long, most))
+      ∙ get_or-drop range.begin batch.indices.now k 0)
 
   -- there are as many rows as indices in the range
-  pub rows_in_range : (rows : List Row) → range.end ≤ length batch.places.now → rows ≡ rows_at batch.plan.now (indices_in batch.places.now range)
+  pub rows_in_range : (rows : List Row) → range.end ≤ length batch.indices.now → rows ≡ rows_at batch.plan.now (indices_in batch.indices.now range)
       → length rows ≡ range.end - range.begin
   unfolding rows_at
   rows_in_range rows within are =
       let no_job = single_job [] 0 [] in
       let row_at = λ (i : ℕ). row_of batch.plan.now (get_or batch.plan.now.jobs i no_job) in
-      let indices = indices_in batch.places.now range in
+      let indices = indices_in batch.indices.now range in
       let long = ap length are ∙ length-map indices row_at in
-      let rest = length-drop range.begin batch.places.now in
-      let most = length-take (range.end - range.begin) (drop range.begin batch.places.now) in
+      let rest = length-drop range.begin batch.indices.now in
+      let most = length-take (range.end - range.begin) (drop range.begin batch.indices.now) in
       omega (arith, long, rest, most, within)

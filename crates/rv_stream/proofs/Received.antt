@@ -73,16 +73,16 @@ module _ (has_seen : List ReportedRow → Type 0) (line : ℕ → Row → List �
       ap concat (by_index_first other places seen.reported seen.few (λ k d lt. (seen.each k d lt).index_is))
       ∙ ap (joined_row_texts other places) seen.same_rows
 
-module _ (line : ℕ → Row → List ℕ) (batch : Batch) (told : List ReportedRow) (few : length told ≤ length batch.places.now)
+module _ (line : ℕ → Row → List ℕ) (batch : Batch) (told : List ReportedRow) (few : length told ≤ length batch.indices.now)
     (each : (k : ℕ) (any : ReportedRow) → k < length told → IsReportedRow line batch k (get_or told k any)) where
   same_rows : rows_of_reported told ≡ take (length told) (batch_rows batch)
   unfolding rows_at
   same_rows =
-      rows_first (λ i. row_of batch.plan.now (get_or batch.plan.now.jobs i (single_job [] 0 []))) batch.places.now told few
+      rows_first (λ i. row_of batch.plan.now (get_or batch.plan.now.jobs i (single_job [] 0 []))) batch.indices.now told few
       (λ k d lt. (each k d lt).row)
 
   are_seen : (has_seen : List ReportedRow → Type 0) → has_seen told
-      → HasSeenRows has_seen line batch.places.now (rows_of_reported told)
+      → HasSeenRows has_seen line batch.indices.now (rows_of_reported told)
   are_seen has_seen seen = record {
     reported = told;
     seen = seen;
@@ -133,13 +133,13 @@ pub record HasEnded (received : List ReportedRow → Type 0) (line : ℕ → Row
 module _ (line : ℕ → Row → List ℕ) (batch : Batch) (most : Option ℕ) (judging : JudgeView) (left : Option ℕ) (refused : Bool) (kept : List Row)
     (received : List ReportedRow → Type 0) (stops : Type 0)
     (first : (told : List ReportedRow) → received told → AreRowsUpToFailure most judging left refused kept (rows_of_reported told)) where
-  begins : (n : ℕ) → HasReceived (IsReportedRow line batch) (length batch.places.now) received n
-      → HasSeenSomeRows received line batch.places.now (rows_up_to most (fails judging) (batch_rows batch))
+  begins : (n : ℕ) → HasReceived (IsReportedRow line batch) (length batch.indices.now) received n
+      → HasSeenSomeRows received line batch.indices.now (rows_up_to most (fails judging) (batch_rows batch))
   begins n hears =
       let told = hears.results in
       let long = hears.count_is in
       let within = hears.few in
-      let few : length told ≤ length batch.places.now = omega (arith, long, within) in
+      let few : length told ≤ length batch.indices.now = omega (arith, long, within) in
       let k = length told in
       let are = same_rows line batch told few hears.each in
       let front = first_of (fails judging) most (rows_of_reported told) (drop k (batch_rows batch))
@@ -152,33 +152,33 @@ module _ (line : ℕ → Row → List ℕ) (batch : Batch) (most : Option ℕ) (
       }
 
   -- however a run ended, the first rows were received
-  pub has_begun : (ran : Result Flow RunError) → IsRunDelivered (IsReportedRow line batch) (length batch.places.now) received stops ran
-      → HasSeenSomeRows received line batch.places.now (rows_up_to most (fails judging) (batch_rows batch))
-  has_begun (Ok Continue) run = begins (length batch.places.now) run.0
-  has_begun (Ok Stop) run = begins run.0.count run.0.hears
-  has_begun (Err error) run = begins run.count run.hears
+  pub has_begun : (ran : Result Flow RunError) → IsRunDelivered (IsReportedRow line batch) (length batch.indices.now) received stops ran
+      → HasSeenSomeRows received line batch.indices.now (rows_up_to most (fails judging) (batch_rows batch))
+  has_begun (Ok Continue) run = begins (length batch.indices.now) run.0
+  has_begun (Ok Stop) run = begins run.0.count run.0.received
+  has_begun (Err error) run = begins run.count run.received
 
-  pub has_ended : (flow : Flow) → IsRunDelivered (IsReportedRow line batch) (length batch.places.now) received stops (Ok flow)
-      → refused ≡ false → (flow ≡ Stop → left ≡ Some 0) → HasEnded received line batch.places.now (rows_up_to most (fails judging) (batch_rows batch)) kept
+  pub has_ended : (flow : Flow) → IsRunDelivered (IsReportedRow line batch) (length batch.indices.now) received stops (Ok flow)
+      → refused ≡ false → (flow ≡ Stop → left ≡ Some 0) → HasEnded received line batch.indices.now (rows_up_to most (fails judging) (batch_rows batch)) kept
   has_ended Continue run there ends =
       let hears = run.0 in
       let told = hears.results in
       let long = hears.count_is in
-      let few : length told ≤ length batch.places.now = omega (arith, long) in
-      let rows = rows_count batch.plan.now batch.places.now in
+      let few : length told ≤ length batch.indices.now = omega (arith, long) in
+      let rows = rows_count batch.plan.now batch.indices.now in
       let every = same_rows line batch told few hears.each
       ∙ take_all (length told) (batch_rows batch) (omega (arith, rows, long)) in
       let is : rows_of_reported told ≡ rows_up_to most (fails judging) (batch_rows batch) =
       sym (ap (rows_up_to most (fails judging)) (sym every) ∙ (first told hears.received).within) in record {
-        seen = subst (HasSeenRows received line batch.places.now) is (are_seen line batch told few hears.each received hears.received);
+        seen = subst (HasSeenRows received line batch.indices.now) is (are_seen line batch told few hears.each received hears.received);
         collected_all = (first told hears.received).collected_all there ∙ is;
       }
   has_ended Stop run there ends =
-      let hears = run.0.hears in
+      let hears = run.0.received in
       let told = hears.results in
       let long = hears.count_is in
       let within = hears.few in
-      let few : length told ≤ length batch.places.now = omega (arith, long, within) in
+      let few : length told ≤ length batch.indices.now = omega (arith, long, within) in
       let k = length told in
       let are = same_rows line batch told few hears.each in
       let told_first = first told hears.received in
@@ -187,22 +187,22 @@ module _ (line : ℕ → Row → List ℕ) (batch : Batch) (most : Option ℕ) (
       ∙ ap (λ (rs : List Row). rows_up_to most (fails judging) (rs ++ drop k (batch_rows batch))) (sym are)
       ∙ ended_there (fails judging) most (rows_of_reported told) (drop k (batch_rows batch))
       told_first.within (sym told_first.failures_left ∙ ends refl)) in record {
-        seen = subst (HasSeenRows received line batch.places.now) is (are_seen line batch told few hears.each received hears.received);
+        seen = subst (HasSeenRows received line batch.indices.now) is (are_seen line batch told few hears.each received hears.received);
         collected_all = told_first.collected_all there ∙ is;
       }
 
   -- a run that ended well
-  pub has_ended_well : (ran : Result Flow RunError) → IsRunDelivered (IsReportedRow line batch) (length batch.places.now) received stops ran
-      → is_ok ran ≡ true → refused ≡ false → (ran ≡ Ok Stop → left ≡ Some 0) → HasEnded received line batch.places.now (rows_up_to most (fails judging) (batch_rows batch)) kept
+  pub has_ended_well : (ran : Result Flow RunError) → IsRunDelivered (IsReportedRow line batch) (length batch.indices.now) received stops ran
+      → is_ok ran ≡ true → refused ≡ false → (ran ≡ Ok Stop → left ≡ Some 0) → HasEnded received line batch.indices.now (rows_up_to most (fails judging) (batch_rows batch)) kept
   has_ended_well (Ok flow) run ok there ends = has_ended flow run there (λ is. ends (ap Ok is))
   has_ended_well (Err error) run ok there ends = absurd (false≢true ok)
 
   -- a run without a limit that ended well came to its end
-  pub ran_to_end : (ran : Result Flow RunError) → IsRunDelivered (IsReportedRow line batch) (length batch.places.now) received stops ran
+  pub ran_to_end : (ran : Result Flow RunError) → IsRunDelivered (IsReportedRow line batch) (length batch.indices.now) received stops ran
       → is_ok ran ≡ true → (ran ≡ Ok Stop → left ≡ Some 0) → most ≡ None → ran ≡ Ok Continue
   ran_to_end (Ok Continue) run ok ends none = refl
   ran_to_end (Ok Stop) run ok ends none =
-      let hears = run.0.hears in
+      let hears = run.0.received in
       let here = (first hears.results hears.received).failures_left in
       let some : Some 0 ≡ failures_left_after_row most judging (rows_of_reported hears.results) = sym (ends refl) ∙ here in
       absurd (some_is_not_none 0 (some ∙ ap (λ m. failures_left_after_row m judging (rows_of_reported hears.results)) none))

@@ -19,7 +19,7 @@ pub record AreReportedRows (row_text : ℕ → Row → List ℕ) (batch : Batch)
 -- `reported` has the rows of the jobs in a range of the batch, with their texts, and the table of these jobs
 pub record IsReportedRange (row_text : ℕ → Row → List ℕ) (batch : Batch) (range : IndexRange) (reported : ReportedRange) : Type 0 where
   pub rows : AreReportedRows row_text batch range reported.rows.items
-  pub table : IsTableOfRange batch.plan.now (indices_in batch.places.now range) reported.table
+  pub table : IsTableOfRange batch.plan.now (indices_in batch.indices.now range) reported.table
 
 -- the reported rows of some ranges, one after another
 abbrev pub rows_of_ranges : List ReportedRange → List ReportedRow

@@ -7,19 +7,19 @@ use Rattle.rv_stream.specs.declared.reported_row.ReportedRow.{ReportedRow}
 use Rattle.rv_stream.specs.Limits.{failures_left_after, rows_up_to}
 use Rattle.rv_expect.specs.Judgement.{JudgeView, fails}
 
--- `told` is the row of the batch's job with this number, the job's index in the list, and the text that `row_text` returns for them
-pub record IsReportedRow (row_text : ℕ → Row → List ℕ) (batch : Batch) (number : ℕ) (told : ReportedRow) : Type 0 where
-  pub index : told.index ≡ index_of_number batch number
-  pub row : told.row ≡ row_of_number batch number
-  pub text : told.text.items ≡ row_text told.index told.row
+-- `reported` is the row of the batch's job with this number, the job's index in the list, and the text that `row_text` returns for them
+pub record IsReportedRow (row_text : ℕ → Row → List ℕ) (batch : Batch) (number : ℕ) (reported : ReportedRow) : Type 0 where
+  pub index : reported.index ≡ index_of_number batch number
+  pub row : reported.row ≡ row_of_number batch number
+  pub text : reported.text.items ≡ row_text reported.index reported.row
 
 -- the rows in the reported rows, without their indices and texts
 abbrev pub rows_of_reported : List ReportedRow → List Row
-rows_of_reported told = map (λ (t : ReportedRow). t.row) told
+rows_of_reported reported = map (λ (t : ReportedRow). t.row) reported
 
 -- the texts in the reported rows, in order
 abbrev pub texts_of_reported : List ReportedRow → List (List ℕ)
-texts_of_reported told = map (λ (t : ReportedRow). t.text.items) told
+texts_of_reported reported = map (λ (t : ReportedRow). t.text.items) reported
 
 -- the number of further failures after which the run stops, if it has these rows so far; `None` without a limit
 abbrev pub failures_left_after_row : Option ℕ → JudgeView → List Row → Option ℕ

@@ -49,22 +49,22 @@ pub(crate) fn stream_counted_rows<
     requires ends { (J.max_failures ≡ options.now.max_failures) × (J.judge ≡ judge_view options.now.judge) }
     requires all { options.now.max_failures ≡ None }
     requires seen { B.has_seen observer [] }
-    requires goes { B.stops observer → ⊥ }
+    requires running { B.stops observer → ⊥ }
     ensures rows { IfOk result.2 (λ run. run.rows ≡ rows_within options.now (batch_rows batch.now)) }
-    ensures few { IfOk result.2 (λ run. length run.rows ≤ length batch.now.places.now) }
-    ensures table { IfOk result.2 (λ run. IsSomeAnd run.table (IsTableOfJobsAt batch.now.plan.now batch.now.places.now)) }
+    ensures few { IfOk result.2 (λ run. length run.rows ≤ length batch.now.indices.now) }
+    ensures table { IfOk result.2 (λ run. IsSomeAnd run.table (IsTableOfJobsAt batch.now.plan.now batch.now.indices.now)) }
     ensures all { OnOk result.2 (Appends (W.accepted output.entry.out) (W.accepted result.0) (joined_row_texts (T.line output.entry.reporter.now)
-        batch.now.places.now (rows_within options.now (batch_rows batch.now)))) }
+        batch.now.indices.now (rows_within options.now (batch_rows batch.now)))) }
     ensures counted { OnOk result.2 (W.failure_count result.0 ≡ W.failure_count output.entry.out) }
     ensures part { OnErr result.2 (AppendsPrefix (W.accepted output.entry.out) (W.accepted result.0)
-        (joined_row_texts (T.line output.entry.reporter.now) batch.now.places.now (rows_within options.now (batch_rows batch.now)))) }
-    ensures seen { OnOk result.2 (HasSeenRows (B.has_seen result.1) (T.line output.entry.reporter.now) batch.now.places.now
+        (joined_row_texts (T.line output.entry.reporter.now) batch.now.indices.now (rows_within options.now (batch_rows batch.now)))) }
+    ensures seen { OnOk result.2 (HasSeenRows (B.has_seen result.1) (T.line output.entry.reporter.now) batch.now.indices.now
         (rows_within options.now (batch_rows batch.now))) }
-    ensures seen_some { OnErr result.2 (HasSeenSomeRows (B.has_seen result.1) (T.line output.entry.reporter.now) batch.now.places.now
+    ensures seen_some { OnErr result.2 (HasSeenSomeRows (B.has_seen result.1) (T.line output.entry.reporter.now) batch.now.indices.now
         (rows_within options.now (batch_rows batch.now))) }
     ensures stopped { IfErr result.2 (λ error. error ≡ ObserverStopped → B.stops result.1) }
 {
-    let ranges = match ranges_of_images(crew.alloc, batch.plan, batch.places, crew.workers) {
+    let ranges = match ranges_of_images(crew.alloc, batch.plan, batch.indices, crew.workers) {
         Ok(ranges) => ranges,
         Err(error) => return (output.out, observer, Err(StreamError::from(error))),
     };

@@ -30,7 +30,7 @@ impl<J: StreamSpec, W: Sink + Drop> Outbox<J, W> {
         requires before { J.accepted_before ≡ W.accepted out }
         requires failures { J.failure_count ≡ W.failure_count out }
         ensures sent { IsSent J.accepted_before (W.accepted result.out) J.failure_count (W.failure_count result.out) result.failed result.buffered.items [] }
-        ensures goes { result.failed ≡ None }
+        ensures no_failure { result.failed ≡ None }
     {
         Outbox {
             out,
@@ -52,7 +52,7 @@ impl<J: StreamSpec, W: Sink + Drop> Outbox<J, W> {
             → IsSent J.accepted_before (W.accepted self.old.out) J.failure_count (W.failure_count self.old.out) self.old.failed self.old.buffered.items text
             → IsSent J.accepted_before (W.accepted self.new.out) J.failure_count (W.failure_count self.new.out) self.new.failed self.new.buffered.items
             (text ++ T.line reporter.now made.now.index made.now.row) }
-        ensures goes { result ≡ Continue → self.new.failed ≡ None }
+        ensures no_failure { result ≡ Continue → self.new.failed ≡ None }
         ensures stops { result ≡ Stop → is_some self.new.failed ≡ true }
     {
         match reporter.push_row_text(alloc, made.index, &made.row, &mut self.buffered) {
@@ -71,7 +71,7 @@ impl<J: StreamSpec, W: Sink + Drop> Outbox<J, W> {
         ensures sent { (text : List ℕ)
             → IsSent J.accepted_before (W.accepted self.old.out) J.failure_count (W.failure_count self.old.out) self.old.failed self.old.buffered.items text
             → IsSent J.accepted_before (W.accepted self.new.out) J.failure_count (W.failure_count self.new.out) self.new.failed self.new.buffered.items text }
-        ensures goes { result ≡ Continue → self.new.failed ≡ None }
+        ensures no_failure { result ≡ Continue → self.new.failed ≡ None }
         ensures stops { result ≡ Stop → is_some self.new.failed ≡ true }
     {
         match put_all(&mut self.out, self.buffered.as_slice()) {
@@ -94,7 +94,7 @@ impl<J: StreamSpec, W: Sink + Drop> Outbox<J, W> {
             × (W.failure_count result.0 ≡ J.failure_count)) }
         ensures part { (text : List ℕ) → IsSent J.accepted_before (W.accepted self.out) J.failure_count (W.failure_count self.out) self.failed self.buffered.items text
             → OnErr result.1 (AppendsPrefix J.accepted_before (W.accepted result.0) text) }
-        ensures goes { OnOk result.1 (self.failed ≡ None) }
+        ensures no_failure { OnOk result.1 (self.failed ≡ None) }
         ensures begun { (text : List ℕ) → IsSent J.accepted_before (W.accepted self.out) J.failure_count (W.failure_count self.out) self.failed self.buffered.items text
             → AppendsPrefix J.accepted_before (W.accepted result.0) text }
     {

@@ -34,7 +34,7 @@ pub(crate) struct CountedRangeWork<'b, 'r, 't, T: RowReporter> {
     pub(crate) batch: &'b Batch<'b>,
     pub(crate) ranges: &'r [IndexRange],
     pub(crate) reporter: &'t T,
-    pub(crate) ghost are: { AreIndexRanges batch.now.plan.now batch.now.places.now ranges.now },
+    pub(crate) ghost are: { AreIndexRanges batch.now.plan.now batch.now.indices.now ranges.now },
 }
 
 impl<T: RowReporter> CountedRangeWork<'_, '_, '_, T> {
@@ -46,14 +46,14 @@ impl<T: RowReporter> CountedRangeWork<'_, '_, '_, T> {
         rows: Vec<Row>,
     ) -> Result<Vec<ReportedRow>, AllocError>
         requires some { range.begin < range.end }
-        requires within { range.end ≤ length self.now.batch.now.places.now }
-        requires rows { rows.items ≡ rows_at self.now.batch.now.plan.now (indices_in self.now.batch.now.places.now range) }
+        requires within { range.end ≤ length self.now.batch.now.indices.now }
+        requires rows { rows.items ≡ rows_at self.now.batch.now.plan.now (indices_in self.now.batch.now.indices.now range) }
         ensures { IfOk result (λ reported. AreReportedRows (T.line self.now.reporter.now) self.now.batch.now range reported.items) }
     {
         let mut reported = Vec::with_capacity(alloc, rows.len())?;
         let mut number = range.begin;
         for row in rows {
-            let index = self.batch.places[number];
+            let index = self.batch.indices[number];
             let mut text = Vec::new(alloc);
             self.reporter.push_row_text(alloc, index, &row, &mut text)?;
             reported.push(ReportedRow { index, row, text })?;
@@ -86,14 +86,14 @@ impl<T: RowReporter> Work<ReportedRange> for CountedRangeWork<'_, '_, '_, T> {
     }
 
     // Runs the jobs of the range with this number, counted from 0, and returns their rows with texts, and their table.
-    fn make(
+    fn compute(
         &self,
         alloc: Global,
         number: usize,
         worker_state: &mut WorkerState,
     ) -> Result<ReportedRange, AllocError> {
         let range = self.ranges[number];
-        let indices = &self.batch.places[range.begin..range.end];
+        let indices = &self.batch.indices[range.begin..range.end];
         let CountedRows { rows, table } = count_rows_at(
             alloc,
             self.batch.plan,

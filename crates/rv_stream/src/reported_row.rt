@@ -26,7 +26,7 @@ impl<T: RowReporter> Work<ReportedRow> for ReportedRowWork<'_, '_, T> {
     ghost use Rattle.rv_counting.specs.RecentOutcomes.{AreOutcomesOfPlan};
     ghost use Rattle.rv_stream.specs.ReportedRows.{IsReportedRow};
 
-    ghost jobs = { λ s. length s.batch.now.places.now };
+    ghost jobs = { λ s. length s.batch.now.indices.now };
 
     ghost is_output = { λ s number told. IsReportedRow (T.line s.reporter.now) s.batch.now number told };
 
@@ -34,7 +34,7 @@ impl<T: RowReporter> Work<ReportedRow> for ReportedRowWork<'_, '_, T> {
 
     // Returns the number of jobs in the batch.
     fn jobs(&self) -> usize {
-        self.batch.places.len()
+        self.batch.indices.len()
     }
 
     // Returns a worker's initial state, whose memory it reuses from job to job.
@@ -43,13 +43,13 @@ impl<T: RowReporter> Work<ReportedRow> for ReportedRowWork<'_, '_, T> {
     }
 
     // Runs the job with this number in the batch, counted from 0, and returns its row with its index in the list and its text.
-    fn make(
+    fn compute(
         &self,
         alloc: Global,
         number: usize,
         worker_state: &mut WorkerState,
     ) -> Result<ReportedRow, AllocError> {
-        let index = self.batch.places[number];
+        let index = self.batch.indices[number];
         let row = row_at_with_recent(
             alloc,
             self.batch.plan,

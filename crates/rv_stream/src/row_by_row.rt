@@ -36,10 +36,10 @@ impl<L: Listener<ReportedRow> + Drop> Listener<ReportedRange> for RowByRow<L> {
 
 // Delivers rows to a listener, one by one, until it stops the run. Returns whether the run continues.
 fn deliver_rows<L: Listener<ReportedRow>>(listener: &mut L, rows: Vec<ReportedRow>) -> Flow
-    requires goes { L.stops listener.old → ⊥ }
+    requires running { L.stops listener.old → ⊥ }
     ensures received { (before : List AReportedRow) → L.has_received listener.old before
         → HasReceivedMore (L.has_received listener.new) (L.stops listener.new) before rows.items }
-    ensures goes { result ≡ Continue → L.stops listener.new → ⊥ }
+    ensures running { result ≡ Continue → L.stops listener.new → ⊥ }
     ensures stops { result ≡ Stop → L.stops listener.new }
 {
     for row in rows {

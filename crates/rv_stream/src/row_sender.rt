@@ -30,7 +30,7 @@ impl<'t, J: StreamSpec, T: RowReporter, W: Sink + Drop> RowSender<'t, J, T, W> {
         requires before { IfSome out (λ out. (J.accepted_before ≡ W.accepted out) × (J.failure_count ≡ W.failure_count out)) }
         requires line { T.line reporter.now ≡ J.row_text }
         ensures sent { IfSome result.outbox (λ box. IsSent J.accepted_before (W.accepted box.out) J.failure_count (W.failure_count box.out) box.failed box.buffered.items []) }
-        ensures goes { IfSome result.outbox (λ box. box.failed ≡ None) }
+        ensures no_failure { IfSome result.outbox (λ box. box.failed ≡ None) }
     {
         let outbox = match out {
             Some(out) => Some(Outbox::<J, W>::new(alloc, out)),
@@ -53,7 +53,7 @@ impl<'t, J: StreamSpec, T: RowReporter, W: Sink + Drop> RowSender<'t, J, T, W> {
         ensures part { (text : List ℕ)
             → IfSome self.entry.outbox (λ box. IsSent J.accepted_before (W.accepted box.out) J.failure_count (W.failure_count box.out) box.failed box.buffered.items text)
             → OnErr result.1 (IfSome result.0 (λ out. AppendsPrefix J.accepted_before (W.accepted out) text)) }
-        ensures goes { OnOk result.1 (IfSome self.entry.outbox (λ box. box.failed ≡ None)) }
+        ensures no_failure { OnOk result.1 (IfSome self.entry.outbox (λ box. box.failed ≡ None)) }
         ensures failed { OnErr result.1 (J.has_sink ≡ true) }
     {
         let RowSender { outbox, .. } = self;

@@ -42,10 +42,10 @@ pub(crate) fn row_recipients<'k, J: StreamSpec, W: Sink + Drop, B: Observer<Repo
     requires before { (J.accepted_before ≡ W.accepted out) × (J.failure_count ≡ W.failure_count out) }
     requires ends { (J.max_failures ≡ options.now.max_failures) × (J.judge ≡ judge_view options.now.judge) }
     requires seen { B.has_seen observer [] }
-    requires goes { B.stops observer → ⊥ }
+    requires running { B.stops observer → ⊥ }
     requires some { J.max_failures ≡ Some 0 → ⊥ }
     ensures received { ⟦<Both<TextSender<J, W>, Both<B, RowsUpToFailure<'k, J>>> as Listener<ReportedRow>>⟧.has_received result [] }
-    ensures goes { ⟦<Both<TextSender<J, W>, Both<B, RowsUpToFailure<'k, J>>> as Listener<ReportedRow>>⟧.stops result → ⊥ }
+    ensures running { ⟦<Both<TextSender<J, W>, Both<B, RowsUpToFailure<'k, J>>> as Listener<ReportedRow>>⟧.stops result → ⊥ }
 {
     Both {
         first: TextSender::<J, W>::new(alloc, out),
@@ -65,20 +65,20 @@ impl<T: RowReporter> RowStream<'_, '_, '_, T> {
         ran: Result<Flow, RunError>,
     ) -> (W, B, Result<Rows, StreamError>)
         requires ends { (J.max_failures ≡ self.now.options.now.max_failures) × (J.judge ≡ judge_view self.now.options.now.judge) }
-        requires delivered { IsRunDelivered (IsReportedRow (T.line self.now.reporter.now) self.now.batch.now) (length self.now.batch.now.places.now)
+        requires delivered { IsRunDelivered (IsReportedRow (T.line self.now.reporter.now) self.now.batch.now) (length self.now.batch.now.indices.now)
             (⟦<Both<TextSender<J, W>, Both<B, RowsUpToFailure<'k, J>>> as Listener<ReportedRow>>⟧.has_received recipients)
             (⟦<Both<TextSender<J, W>, Both<B, RowsUpToFailure<'k, J>>> as Listener<ReportedRow>>⟧.stops recipients) ran }
         ensures rows { IfOk result.2 (λ rows. rows ≡ rows_within self.now.options.now (batch_rows self.now.batch.now)) }
-        ensures few { IfOk result.2 (λ rows. length rows ≤ length self.now.batch.now.places.now) }
+        ensures few { IfOk result.2 (λ rows. length rows ≤ length self.now.batch.now.indices.now) }
         ensures all { OnOk result.2 (Appends J.accepted_before (W.accepted result.0) (joined_row_texts (T.line self.now.reporter.now)
-            self.now.batch.now.places.now (rows_within self.now.options.now (batch_rows self.now.batch.now)))) }
+            self.now.batch.now.indices.now (rows_within self.now.options.now (batch_rows self.now.batch.now)))) }
         ensures counted { OnOk result.2 (W.failure_count result.0 ≡ J.failure_count) }
         ensures part { OnErr result.2 (AppendsPrefix J.accepted_before (W.accepted result.0)
-            (joined_row_texts (T.line self.now.reporter.now) self.now.batch.now.places.now
+            (joined_row_texts (T.line self.now.reporter.now) self.now.batch.now.indices.now
             (rows_within self.now.options.now (batch_rows self.now.batch.now)))) }
-        ensures seen { OnOk result.2 (HasSeenRows (B.has_seen result.1) (T.line self.now.reporter.now) self.now.batch.now.places.now
+        ensures seen { OnOk result.2 (HasSeenRows (B.has_seen result.1) (T.line self.now.reporter.now) self.now.batch.now.indices.now
             (rows_within self.now.options.now (batch_rows self.now.batch.now))) }
-        ensures seen_some { OnErr result.2 (HasSeenSomeRows (B.has_seen result.1) (T.line self.now.reporter.now) self.now.batch.now.places.now
+        ensures seen_some { OnErr result.2 (HasSeenSomeRows (B.has_seen result.1) (T.line self.now.reporter.now) self.now.batch.now.indices.now
             (rows_within self.now.options.now (batch_rows self.now.batch.now))) }
         ensures stopped { IfErr result.2 (λ error. error ≡ ObserverStopped → B.stops result.1) }
         ensures ran { J.max_failures ≡ None → OnOk result.2 (ran ≡ Ok Continue) }

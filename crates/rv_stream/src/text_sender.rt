@@ -23,7 +23,7 @@ impl<J: StreamSpec, W: Sink + Drop> TextSender<J, W> {
         requires failures { J.failure_count ≡ W.failure_count out }
         ensures sent { IsSent J.accepted_before (W.accepted result.outbox.out) J.failure_count (W.failure_count result.outbox.out)
             result.outbox.failed result.outbox.buffered.items [] }
-        ensures goes { result.outbox.failed ≡ None }
+        ensures no_failure { result.outbox.failed ≡ None }
     {
         TextSender {
             outbox: Outbox::<J, W>::new(alloc, out),

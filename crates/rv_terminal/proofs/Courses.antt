@@ -6,13 +6,13 @@ use Rattle.std.proofs.lemmas.List.Sums.{fold-append}
 use Rattle.std.specs.Io.KnownBytes.{Appends, Keeps}
 use Rattle.std.proofs.KnownBytes.{Appends-nil}
 use Rattle.rv_terminal.specs.Colors.{InText, line_start, colored, position_after, uncolored}
-use Rattle.rv_terminal.specs.ColorSinks.{IsMarkPrefix, IsOutputState, IsColoredAs, IsPartlyColoredAs, IsWrittenInState, IsColoredWithPrefix}
+use Rattle.rv_terminal.specs.ColorSinks.{IsEscapePrefix, IsOutputState, IsColoredAs, IsPartlyColoredAs, IsWrittenInState, IsColoredWithPrefix}
 use Rattle.rv_terminal.specs.ColorSinks.{IsColoredUpTo, first_state, has_failed, results_of}
 use Rattle.rv_terminal.specs.declared.colors.Colors.{Colors}
 use Rattle.rv_terminal.specs.declared.colors.Colors.TheVariants as colors
 use Rattle.rv_terminal.specs.declared.output_state.OutputState.{OutputState}
 use Rattle.rv_terminal.specs.declared.output_state.OutputState.TheVariants as state
-use Rattle.rv_terminal.specs.declared.line_position.Mark.TheVariants as mark
+use Rattle.rv_terminal.specs.declared.line_position.ColorChange.TheVariants as change
 use Rattle.rv_terminal.specs.declared.line_position.LinePosition.{LinePosition}
 use Rattle.rv_terminal.proofs.Sequences.{colored_append, part_out, text_out}
 
@@ -77,7 +77,7 @@ module _ (here : LinePosition) (before old more : List ℕ) (shown : IsColoredUp
       ∙ ap (λ xs. before ++ uncolored InText (drop (length before) xs)) (sym shown.colored_is))))
 
 -- the same, and the first bytes of a mark behind it
-module _ (here : LinePosition) (before old new more part : List ℕ) (shown : IsColoredUpTo here before old) (begun : IsMarkPrefix part)
+module _ (here : LinePosition) (before old new more part : List ℕ) (shown : IsColoredUpTo here before old) (begun : IsEscapePrefix part)
     (out : new ≡ old ++ (colored here more ++ part)) where
   in_part : new ≡ before ++ (colored line_start (shown.text ++ more) ++ part)
   in_part =
@@ -86,13 +86,13 @@ module _ (here : LinePosition) (before old new more part : List ℕ) (shown : Is
       ∙ append_assoc before (colored line_start (shown.text ++ more)) part))
 
   pub shown_in_part : IsColoredWithPrefix before new
-  shown_in_part = record { text = shown.text ++ more; part = part; mark_prefix = begun; colored_is = in_part }
+  shown_in_part = record { text = shown.text ++ more; part = part; escape_prefix = begun; colored_is = in_part }
 
   pub results_in_part_further : before ++ uncolored InText (drop (length before) new)
       ≡ (before ++ uncolored InText (drop (length before) old)) ++ more
   results_in_part_further =
       ap (λ xs. before ++ uncolored InText (drop (length before) xs)) in_part
-      ∙ (results_in_part before (shown.text ++ more) part (part_out begun.mark part begun.rest begun.mark_is)
+      ∙ (results_in_part before (shown.text ++ more) part (part_out begun.change part begun.rest begun.sequence_is)
       ∙ (sym (append_assoc before shown.text more)
       ∙ ap (λ xs. xs ++ more) (sym (results_shown before shown.text)
       ∙ ap (λ xs. before ++ uncolored InText (drop (length before) xs)) (sym shown.colored_is))))
@@ -165,15 +165,15 @@ out_in_part colors.Colored (Some before) (Some out) state.Plain is = absurd is
 out_in_part colors.Colored (Some before) (Some out) (state.Colored here) is = record {
   text = is.text;
   part = [];
-  mark_prefix = record { mark = mark.Nothing; rest = []; mark_is = refl };
+  escape_prefix = record { change = change.Nothing; rest = []; sequence_is = refl };
   plain_is = ap (λ xs. before ++ uncolored InText (drop (length before) xs)) is.colored_is ∙ results_shown before is.text;
   colored_is = is.colored_is ∙ ap (λ xs. before ++ xs) (sym (append-nil (colored line_start is.text)));
 }
 out_in_part colors.Colored (Some before) (Some out) state.Failed is = record {
   text = is.text;
   part = is.part;
-  mark_prefix = is.mark_prefix;
+  escape_prefix = is.escape_prefix;
   plain_is = ap (λ xs. before ++ uncolored InText (drop (length before) xs)) is.colored_is
-      ∙ results_in_part before is.text is.part (part_out is.mark_prefix.mark is.part is.mark_prefix.rest is.mark_prefix.mark_is);
+      ∙ results_in_part before is.text is.part (part_out is.escape_prefix.change is.part is.escape_prefix.rest is.escape_prefix.sequence_is);
   colored_is = is.colored_is;
 }

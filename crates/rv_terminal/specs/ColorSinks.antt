@@ -4,12 +4,12 @@ use Rattle.std.specs.Prelude.{if◌then◌else◌}
 use Rattle.std.specs.Option.{option_map}
 use Rattle.std.specs.Io.KnownBytes.{Appends}
 use Rattle.rv_rows.specs.Counts.{one_more}
-use Rattle.rv_terminal.specs.Colors.{InText, line_start, colored, mark_text, position_after, uncolored}
+use Rattle.rv_terminal.specs.Colors.{InText, line_start, colored, escape_sequence, position_after, uncolored}
 use Rattle.rv_terminal.specs.declared.colors.Colors.{Colors}
 use Rattle.rv_terminal.specs.declared.colors.Colors.TheVariants as colors
 use Rattle.rv_terminal.specs.declared.output_state.OutputState.{OutputState}
 use Rattle.rv_terminal.specs.declared.output_state.OutputState.TheVariants as state
-use Rattle.rv_terminal.specs.declared.line_position.Mark.{Mark}
+use Rattle.rv_terminal.specs.declared.line_position.ColorChange.{ColorChange}
 use Rattle.rv_terminal.specs.declared.line_position.LinePosition.{LinePosition}
 
 -- ---- colored output
@@ -21,17 +21,17 @@ pub record IsColored (before plain out : List ℕ) : Type 0 where
   pub colored_is : out ≡ before ++ colored line_start text
 
 -- `part` is a prefix of an escape sequence, possibly all of it
-pub record IsMarkPrefix (part : List ℕ) : Type 0 where
-  pub mark : Mark
+pub record IsEscapePrefix (part : List ℕ) : Type 0 where
+  pub change : ColorChange
   pub rest : List ℕ
-  pub mark_is : mark_text mark ≡ part ++ rest
+  pub sequence_is : escape_sequence change ≡ part ++ rest
 
 -- `plain` is `before` followed by a text, and `out` is `before` followed by the text with colors and possibly a prefix of an escape
 -- sequence
 pub record IsColoredPrefix (before plain out : List ℕ) : Type 0 where
   pub text : List ℕ
   pub part : List ℕ
-  pub mark_prefix : IsMarkPrefix part
+  pub escape_prefix : IsEscapePrefix part
   pub plain_is : plain ≡ before ++ text
   pub colored_is : out ≡ before ++ (colored line_start text ++ part)
 
@@ -87,7 +87,7 @@ abbrev pub IsWrittenFrom : LinePosition → OutputState → List ℕ → Option 
 IsWrittenFrom here state.Plain text old new = ⊥
 IsWrittenFrom here (state.Colored there) text old new = (there ≡ fold position_after here text) × Appends old new (colored here text)
 IsWrittenFrom here state.Failed text old new =
-    (part : List ℕ) × (IsMarkPrefix part × Appends old new (colored here text ++ part))
+    (part : List ℕ) × (IsEscapePrefix part × Appends old new (colored here text ++ part))
 
 -- the text was written to an output in the first state, and the second is the state afterwards; nothing is written once the output has
 -- failed
@@ -117,7 +117,7 @@ pub record IsColoredUpTo (here : LinePosition) (before out : List ℕ) : Type 0 
 pub record IsColoredWithPrefix (before out : List ℕ) : Type 0 where
   pub text : List ℕ
   pub part : List ℕ
-  pub mark_prefix : IsMarkPrefix part
+  pub escape_prefix : IsEscapePrefix part
   pub colored_is : out ≡ before ++ (colored line_start text ++ part)
 
 -- the state of output with colors: `out` is what was written so far, and begins with `before`, which was written earlier

@@ -1,7 +1,7 @@
 -- Which parts of results are colored on a terminal: PASS and actual results are green, FAIL and expected results are red.
 use Rattle.std.specs.Prelude.{◌==◌, ◌||◌, ◌+◌, ℕ, Bool, true, false, List, [], ◌∷◌, ◌++◌, codes, if◌then◌else◌, nat_lt}
-use Rattle.rv_terminal.specs.declared.line_position.Mark.{Mark}
-use Rattle.rv_terminal.specs.declared.line_position.Mark.TheVariants as mark
+use Rattle.rv_terminal.specs.declared.line_position.ColorChange.{ColorChange}
+use Rattle.rv_terminal.specs.declared.line_position.ColorChange.TheVariants as change
 use Rattle.rv_terminal.specs.declared.line_position.LinePosition.{LinePosition}
 use Rattle.rv_terminal.specs.declared.line_position.LinePosition.TheVariants as position
 
@@ -12,19 +12,19 @@ abbrev pub escape : ℕ
 escape = 27
 
 -- the byte `m`, which ends a terminal's escape sequence for a color
-abbrev pub mark_terminator : ℕ
-mark_terminator = 109
+abbrev pub escape_terminator : ℕ
+escape_terminator = 109
 
 -- the escape sequence for a change of color: to red, to green, or back to the default; empty for `Nothing`
-abbrev pub mark_text : Mark → List ℕ
-mark_text mark.Nothing = []
-mark_text mark.Red = escape ∷ codes "[31m"
-mark_text mark.Green = escape ∷ codes "[32m"
-mark_text mark.End = escape ∷ codes "[0m"
+abbrev pub escape_sequence : ColorChange → List ℕ
+escape_sequence change.Nothing = []
+escape_sequence change.Red = escape ∷ codes "[31m"
+escape_sequence change.Green = escape ∷ codes "[32m"
+escape_sequence change.End = escape ∷ codes "[0m"
 
 -- whether there is no change of color
-abbrev pub is_empty : Mark → Bool
-is_empty mark.Nothing = true
+abbrev pub is_empty : ColorChange → Bool
+is_empty change.Nothing = true
 is_empty _ = false
 
 -- ---- positions in a line
@@ -62,36 +62,36 @@ abbrev pub margin : ℕ
 margin = 5
 
 -- the change of color before a sign: red before a minus, green before a plus, none before any other byte
-abbrev pub sign_mark : ℕ → Mark
-sign_mark byte = if is_minus byte then mark.Red else if is_plus byte then mark.Green else mark.Nothing
+abbrev pub change_before_sign : ℕ → ColorChange
+change_before_sign byte = if is_minus byte then change.Red else if is_plus byte then change.Green else change.Nothing
 
 -- the change of color before the first byte of a line that does not begin with spaces: red before `F`, green before `P`, and otherwise as
 -- for a sign
-abbrev pub word_mark : ℕ → Mark
-word_mark byte = if begins_fail byte then mark.Red else if begins_pass byte then mark.Green else sign_mark byte
+abbrev pub change_before_word : ℕ → ColorChange
+change_before_word byte = if begins_fail byte then change.Red else if begins_pass byte then change.Green else change_before_sign byte
 
--- the change of color before the first byte of a line that is not a space, given the number of spaces before it: `word_mark` if there are
--- none, `sign_mark` if there are `margin`, and otherwise no change
-abbrev pub margin_mark : ℕ → ℕ → Mark
-margin_mark spaces byte =
-    if spaces == 0 then word_mark byte else if spaces == margin then sign_mark byte else mark.Nothing
+-- the change of color before the first byte of a line that is not a space, given the number of spaces before it: `change_before_word` if
+-- there are none, `change_before_sign` if there are `margin`, and otherwise no change
+abbrev pub change_after_margin : ℕ → ℕ → ColorChange
+change_after_margin spaces byte =
+    if spaces == 0 then change_before_word byte else if spaces == margin then change_before_sign byte else change.Nothing
 
 -- the change of color before a byte that does not begin an escape sequence: the color of a word ends before a space, and every color ends
 -- before a line feed
-abbrev pub line_mark : LinePosition → ℕ → Mark
-line_mark (position.Margin spaces) byte = margin_mark spaces byte
-line_mark position.Word byte = if is_space byte || is_line_feed byte then mark.End else mark.Nothing
-line_mark position.Line byte = if is_line_feed byte then mark.End else mark.Nothing
-line_mark position.Rest byte = mark.Nothing
+abbrev pub change_in_line : LinePosition → ℕ → ColorChange
+change_in_line (position.Margin spaces) byte = change_after_margin spaces byte
+change_in_line position.Word byte = if is_space byte || is_line_feed byte then change.End else change.Nothing
+change_in_line position.Line byte = if is_line_feed byte then change.End else change.Nothing
+change_in_line position.Rest byte = change.Nothing
 
 -- the change of color before a byte; there is also one before each escape sequence of the text itself, which distinguishes it from the
 -- added ones
-abbrev pub mark_before : LinePosition → ℕ → Mark
-mark_before here byte = if is_escape byte then mark.End else line_mark here byte
+abbrev pub change_before : LinePosition → ℕ → ColorChange
+change_before here byte = if is_escape byte then change.End else change_in_line here byte
 
 -- the position after the first byte of a line that is not a space; `spaces` is the number of spaces before it
 abbrev pub position_after_first : ℕ → ℕ → LinePosition
-position_after_first spaces byte = if is_empty (margin_mark spaces byte) then position.Rest
+position_after_first spaces byte = if is_empty (change_after_margin spaces byte) then position.Rest
     else if is_minus byte || is_plus byte then position.Line else position.Word
 
 -- the position after a byte of a line that is neither a line feed nor the start of an escape sequence
@@ -112,7 +112,7 @@ position_after here byte = if is_line_feed byte then position.Margin 0
 -- a text with its escape sequences, beginning at this position in a line
 unfoldable pub colored : LinePosition → List ℕ → List ℕ
 colored here [] = []
-colored here (byte ∷ rest) = mark_text (mark_before here byte) ++ byte ∷ colored (position_after here byte) rest
+colored here (byte ∷ rest) = escape_sequence (change_before here byte) ++ byte ∷ colored (position_after here byte) rest
 
 -- the start of a line
 abbrev pub line_start : LinePosition
@@ -123,20 +123,20 @@ line_start = position.Margin 0
 -- where a byte of a text with colors is: in the text, in an escape sequence, or directly after one
 pub data ByteLocation : Type 0 where
   InText : ByteLocation
-  InMark : ByteLocation
-  AfterMark : ByteLocation
+  InEscape : ByteLocation
+  AfterEscape : ByteLocation
 
 -- where the next byte is, given where this byte is; the byte directly after an added escape sequence always belongs to the text
 abbrev pub location_after : ByteLocation → ℕ → ByteLocation
-location_after InText byte = if is_escape byte then InMark else InText
-location_after InMark byte = if byte == mark_terminator then AfterMark else InMark
-location_after AfterMark byte = InText
+location_after InText byte = if is_escape byte then InEscape else InText
+location_after InEscape byte = if byte == escape_terminator then AfterEscape else InEscape
+location_after AfterEscape byte = InText
 
 -- what a byte of a text with colors is in the plain text: the byte itself, or nothing if it belongs to an added escape sequence
 abbrev pub text_of_byte : ByteLocation → ℕ → List ℕ
 text_of_byte InText byte = if is_escape byte then [] else byte ∷ []
-text_of_byte InMark byte = []
-text_of_byte AfterMark byte = byte ∷ []
+text_of_byte InEscape byte = []
+text_of_byte AfterEscape byte = byte ∷ []
 
 -- a text with colors, without its added escape sequences; the first argument says where its first byte is
 unfoldable pub uncolored : ByteLocation → List ℕ → List ℕ

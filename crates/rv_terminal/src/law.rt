@@ -6,6 +6,6 @@ ghost use Rattle.rv_terminal.specs.declared.line_position.LinePosition.{LinePosi
 
 /// Proves that removing the added escape sequences from a colored text returns the original text, whatever position in a line the text
 /// begins at. So different texts remain different with colors.
-pub fn colors_can_be_taken_out()
+pub fn colors_can_be_removed()
     ensures { (position : LinePosition) (text : List ℕ) → uncolored InText (colored position text) ≡ text }
 {}

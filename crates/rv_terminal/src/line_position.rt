@@ -1,12 +1,12 @@
 //! Where colors begin and end in a line of results.
 
 ghost use Rattle.std.specs.Prelude.{◌≡◌, fold};
-ghost use Rattle.rv_terminal.specs.Colors.{margin_mark, position_after_first, is_empty, line_mark, mark_before, mark_text, position_after};
-ghost use Rattle.rv_terminal.specs.Colors.{position_in_line, sign_mark, word_mark};
+ghost use Rattle.rv_terminal.specs.Colors.{change_after_margin, position_after_first, is_empty, change_in_line, change_before, escape_sequence, position_after};
+ghost use Rattle.rv_terminal.specs.Colors.{position_in_line, change_before_sign, change_before_word};
 
 /// The change of color before a byte, for which the terminal gets an escape sequence.
 #[derive(Clone, Copy)]
-pub(crate) enum Mark {
+pub(crate) enum ColorChange {
     Nothing,
     Red,
     Green,
@@ -33,16 +33,16 @@ const MARGIN: u8 = 5;
 // The first byte of a terminal's escape sequences.
 const ESCAPE: u8 = 0x1b;
 
-impl Mark {
+impl ColorChange {
     /// Returns the escape sequence for this change of color; empty for `Nothing`.
     pub(crate) fn text(self) -> &'static str
-        ensures { result.now ≡ mark_text self }
+        ensures { result.now ≡ escape_sequence self }
     {
         match self {
-            Mark::Nothing => "",
-            Mark::Red => "\x1b[31m",
-            Mark::Green => "\x1b[32m",
-            Mark::End => "\x1b[0m",
+            ColorChange::Nothing => "",
+            ColorChange::Red => "\x1b[31m",
+            ColorChange::Green => "\x1b[32m",
+            ColorChange::End => "\x1b[0m",
         }
     }
 
@@ -50,31 +50,31 @@ impl Mark {
     pub(crate) fn is_empty(self) -> bool
         ensures { result ≡ is_empty self }
     {
-        matches!(self, Mark::Nothing)
+        matches!(self, ColorChange::Nothing)
     }
 }
 
 impl LinePosition {
     /// Returns the change of color before a byte at this position.
-    pub(crate) fn mark_before(self, byte: u8) -> Mark
-        ensures { result ≡ mark_before self byte }
+    pub(crate) fn change_before(self, byte: u8) -> ColorChange
+        ensures { result ≡ change_before self byte }
     {
         if byte == ESCAPE {
-            Mark::End
+            ColorChange::End
         } else {
-            self.line_mark(byte)
+            self.change_in_line(byte)
         }
     }
 
     // Returns the change of color before a byte at this position that does not begin an escape sequence.
-    fn line_mark(self, byte: u8) -> Mark
-        ensures { result ≡ line_mark self byte }
+    fn change_in_line(self, byte: u8) -> ColorChange
+        ensures { result ≡ change_in_line self byte }
     {
         match self {
-            LinePosition::Margin(spaces) => margin_mark(spaces, byte),
-            LinePosition::Word if byte == b' ' => Mark::End,
-            LinePosition::Word | LinePosition::Line if byte == b'\n' => Mark::End,
-            _ => Mark::Nothing,
+            LinePosition::Margin(spaces) => change_after_margin(spaces, byte),
+            LinePosition::Word if byte == b' ' => ColorChange::End,
+            LinePosition::Word | LinePosition::Line if byte == b'\n' => ColorChange::End,
+            _ => ColorChange::Nothing,
         }
     }
 
@@ -120,37 +120,37 @@ impl LinePosition {
 }
 
 // Returns the change of color before the first byte of a line that is not a space; `spaces` is the number of spaces before it.
-fn margin_mark(spaces: u8, byte: u8) -> Mark
-    ensures { result ≡ margin_mark spaces byte }
+fn change_after_margin(spaces: u8, byte: u8) -> ColorChange
+    ensures { result ≡ change_after_margin spaces byte }
 {
     if spaces == 0 {
-        word_mark(byte)
+        change_before_word(byte)
     } else if spaces == MARGIN {
-        sign_mark(byte)
+        change_before_sign(byte)
     } else {
-        Mark::Nothing
+        ColorChange::Nothing
     }
 }
 
 // Returns the change of color before the first byte of a line that does not begin with spaces.
-fn word_mark(byte: u8) -> Mark
-    ensures { result ≡ word_mark byte }
+fn change_before_word(byte: u8) -> ColorChange
+    ensures { result ≡ change_before_word byte }
 {
     match byte {
-        b'F' => Mark::Red,
-        b'P' => Mark::Green,
-        _ => sign_mark(byte),
+        b'F' => ColorChange::Red,
+        b'P' => ColorChange::Green,
+        _ => change_before_sign(byte),
     }
 }
 
 // Returns red before a minus, green before a plus, and no change before any other byte.
-fn sign_mark(byte: u8) -> Mark
-    ensures { result ≡ sign_mark byte }
+fn change_before_sign(byte: u8) -> ColorChange
+    ensures { result ≡ change_before_sign byte }
 {
     match byte {
-        b'-' => Mark::Red,
-        b'+' => Mark::Green,
-        _ => Mark::Nothing,
+        b'-' => ColorChange::Red,
+        b'+' => ColorChange::Green,
+        _ => ColorChange::Nothing,
     }
 }
 
@@ -158,7 +158,7 @@ fn sign_mark(byte: u8) -> Mark
 fn position_after_first(spaces: u8, byte: u8) -> LinePosition
     ensures { result ≡ position_after_first spaces byte }
 {
-    if margin_mark(spaces, byte).is_empty() {
+    if change_after_margin(spaces, byte).is_empty() {
         LinePosition::Rest
     } else if byte == b'-' || byte == b'+' {
         LinePosition::Line

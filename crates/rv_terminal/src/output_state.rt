@@ -4,7 +4,7 @@ ghost use Rattle.std.specs.Prelude.{◌≡◌, ◌≤◌, ◌<◌, ◌++◌, ℕ
 ghost use Rattle.std.specs.Io.KnownBytes.{Appends};
 ghost use Rattle.rv_rows.specs.Counts.{one_more};
 ghost use Rattle.rv_rows.specs.Sinks.{AppendsPrefix};
-ghost use Rattle.rv_terminal.specs.Colors.{colored, mark_before, mark_text};
+ghost use Rattle.rv_terminal.specs.Colors.{colored, change_before, escape_sequence};
 ghost use Rattle.rv_terminal.specs.ColorSinks.{IsWrittenInState, IsWrittenFrom, sink_failures, first_state, has_failed};
 ghost use Rattle.rv_terminal.specs.declared.output_state.OutputState.TheVariants as state;
 
@@ -102,12 +102,12 @@ fn write_span<S: Sink>(
     ensures within { IfOk result (λ count. (1 ≤ count) × (count ≤ length bytes.now)) }
     ensures colored { IfOk result (λ count. Appends (S.accepted sink.old) (S.accepted sink.new) (colored position (take count bytes.now))) }
     ensures prefix_written { IfErr result (λ _. AppendsPrefix (S.accepted sink.old) (S.accepted sink.new)
-        (mark_text (mark_before position (slice_index bytes.now 0)))) }
+        (escape_sequence (change_before position (slice_index bytes.now 0)))) }
     ensures no_failed_writes { IfOk result (λ _. S.failure_count sink.new ≡ S.failure_count sink.old) }
     ensures failed_write { IfErr result (λ _. S.failure_count sink.new ≡ one_more (S.failure_count sink.old)) }
 {
-    let mark = position.mark_before(bytes[0]);
-    put_all(sink, mark.text().as_bytes())?;
+    let change = position.change_before(bytes[0]);
+    put_all(sink, change.text().as_bytes())?;
     sink.put(&bytes[..span_len(position, bytes)])
 }
 
@@ -116,11 +116,11 @@ fn span_len(position: LinePosition, bytes: &[u8]) -> usize
     requires { 0 < length bytes.now }
     ensures within { (1 ≤ result) × (result ≤ length bytes.now) }
     ensures no_mark_between { (count : ℕ) → 1 ≤ count → count ≤ result
-        → colored position (take count bytes.now) ≡ mark_text (mark_before position (slice_index bytes.now 0)) ++ take count bytes.now }
+        → colored position (take count bytes.now) ≡ escape_sequence (change_before position (slice_index bytes.now 0)) ++ take count bytes.now }
 {
     let mut at = 1;
     let mut here = position.after(bytes[0]);
-    while at < bytes.len() && here.mark_before(bytes[at]).is_empty() {
+    while at < bytes.len() && here.change_before(bytes[at]).is_empty() {
         here = here.after(bytes[at]);
         at += 1;
     }

@@ -6,7 +6,7 @@ ghost use Rattle.rv_expect.specs.Judgement.{judge_view};
 ghost use Rattle.rv_rows.specs.declared_row.Row.{Row as ARow};
 
 use crate::tally_value::Tally;
-use crate::terminal_line::{Counts, Line};
+use crate::terminal_line::{Counts, ProgressLine};
 use rv_expect::Judge;
 use rv_rows::Row;
 use std::alloc::Global;
@@ -27,7 +27,7 @@ pub struct Progress<'k, W: Drop> {
     start: u64,
     // When the line was last shown, in tenths of a second after `start`.
     shown: AtomicU64,
-    line: Mutex<Line<W>>,
+    line: Mutex<ProgressLine<W>>,
 }
 
 impl<'k, W: Write + Drop> Progress<'k, W> {
@@ -68,7 +68,7 @@ impl<'k, W: Write + Drop> Progress<'k, W> {
             tally: Mutex::new(Tally::new()),
             start,
             shown: AtomicU64::new(0),
-            line: Mutex::new(Line::new(out)),
+            line: Mutex::new(ProgressLine::new(out)),
         }
     }
 
@@ -151,7 +151,7 @@ impl<'k, W: Write + Drop> Progress<'k, W> {
     }
 
     /// Locks the line for this thread.
-    pub(crate) fn lock_line<R: Wait>(&self, rt: &R) -> MutexGuard<'_, Line<W>> {
+    pub(crate) fn lock_line<R: Wait>(&self, rt: &R) -> MutexGuard<'_, ProgressLine<W>> {
         self.line.lock(rt)
     }
 

@@ -21,21 +21,21 @@ const CLEAR: &[u8] = b"\r\x1b[K";
 
 /// A line on a terminal that is redrawn in place. A call that writes returns an error if the terminal did not accept all bytes.
 #[derive(Drop)]
-pub(crate) struct Line<W: Drop> {
+pub(crate) struct ProgressLine<W: Drop> {
     out: W,
     is_shown: bool,
     // Whether other output on the terminal ends in the middle of a line.
     is_blocked: bool,
 }
 
-impl<W: Write + Drop> Line<W> {
+impl<W: Write + Drop> ProgressLine<W> {
     /// Creates a line that is not shown yet.
-    pub(crate) fn new(out: W) -> Line<W>
+    pub(crate) fn new(out: W) -> ProgressLine<W>
         ensures out { result.out ≡ out }
         ensures shown { result.is_shown ≡ false }
         ensures blocked { result.is_blocked ≡ false }
     {
-        Line {
+        ProgressLine {
             out,
             is_shown: false,
             is_blocked: false,

@@ -7,7 +7,7 @@ ghost use Rattle.rv_rows.specs.Counts.{one_more};
 
 use crate::progress::Progress;
 use crate::tally_value::Tally;
-use crate::terminal_line::{Counts, Line};
+use crate::terminal_line::{Counts, ProgressLine};
 use rv_rows::{Sink, SinkFailed, WriteError};
 use std::alloc::Global;
 use std::io::Write;
@@ -88,10 +88,10 @@ impl<'a, 'k, R: Wait, S: Sink + Drop, W: Write + Drop> TerminalSink<'a, 'k, R, S
     fn write_around_line(
         &mut self,
         progress: &Progress<'k, W>,
-        line: &mut Line<W>,
+        line: &mut ProgressLine<W>,
         bytes: &[u8],
         tally: Tally,
-    ) -> BesideLineResult
+    ) -> SinkAndLineResult
         requires { 0 < length bytes.now }
         ensures within { IfOk result.put (λ count. (1 ≤ count) × (count ≤ length bytes.now)) }
         ensures accepted { IfOk result.put
@@ -108,26 +108,26 @@ impl<'a, 'k, R: Wait, S: Sink + Drop, W: Write + Drop> TerminalSink<'a, 'k, R, S
             (counts_text tally.done progress.now.jobs tally.failed))) }
     {
         let counts = progress.counts_of(tally);
-        write_beside_line(line, &mut self.sink, bytes, self.alloc, counts)
+        write_sink_around_line(line, &mut self.sink, bytes, self.alloc, counts)
     }
 }
 
 // The result of a write to a sink, and whether the terminal accepted the changes of the progress line around the write.
 #[derive(Drop)]
-struct BesideLineResult {
+struct SinkAndLineResult {
     put: Result<usize, SinkFailed>,
     line: Result<(), WriteError>,
 }
 
 // Writes bytes to a sink on the terminal of the line. The line is removed before, and shown again afterwards if the output ends with a line
 // feed.
-fn write_beside_line<S: Sink, W: Write + Drop>(
-    line: &mut Line<W>,
+fn write_sink_around_line<S: Sink, W: Write + Drop>(
+    line: &mut ProgressLine<W>,
     sink: &mut S,
     bytes: &[u8],
     alloc: Global,
     counts: Counts,
-) -> BesideLineResult
+) -> SinkAndLineResult
     requires { 0 < length bytes.now }
     ensures within { IfOk result.put (λ count. (1 ≤ count) × (count ≤ length bytes.now)) }
     ensures accepted { IfOk result.put (λ count. Appends (S.accepted sink.old) (S.accepted sink.new) (take count bytes.now)) }
@@ -144,14 +144,14 @@ fn write_beside_line<S: Sink, W: Write + Drop>(
 {
     if !line.is_shown() {
         let put = write_and_record(line, sink, bytes);
-        return BesideLineResult { put, line: Ok(()) };
+        return SinkAndLineResult { put, line: Ok(()) };
     }
     let erased = line.remove();
     let put = write_and_record(line, sink, bytes);
     let shown = line.show_counts(alloc, counts);
     match erased {
-        Ok(()) => BesideLineResult { put, line: shown },
-        Err(error) => BesideLineResult {
+        Ok(()) => SinkAndLineResult { put, line: shown },
+        Err(error) => SinkAndLineResult {
             put,
             line: Err(error),
         },
@@ -160,7 +160,7 @@ fn write_beside_line<S: Sink, W: Write + Drop>(
 
 // Writes bytes to a sink on the terminal of the line, which is not shown, and records whether the output ends in the middle of a line.
 fn write_and_record<S: Sink, W: Write + Drop>(
-    line: &mut Line<W>,
+    line: &mut ProgressLine<W>,
     sink: &mut S,
     bytes: &[u8],
 ) -> Result<usize, SinkFailed>

@@ -35,7 +35,7 @@ pub fn codes_are_fetched()
 
 /// Proves that if a trace shows a store to an address outside the console, memory has the shown value after the store. The values shown for
 /// registers are correct by definition.
-pub fn stored_values_stand()
+pub fn shown_stored_values_are_in_memory()
     ensures { (s t : State) (a v : ℕ) (w : Width) → step_of s ≡ Ok t
         → (traced_step s t).write ≡ Stored a w v → touches_console a (size_of w) ≡ false
         → value_at t.bus.memory a w ≡ v }

@@ -22,7 +22,10 @@ pub use code::{Code, code_at, code_length, instr_of};
 pub use elf_file::ElfFile;
 pub use job_file::{image_bytes, image_of_bytes};
 pub use job_image::JobImage;
-pub use law::{codes_are_fetched, rows_describe_the_run, stored_values_stand, traces_show_the_end};
+pub use law::{
+    codes_are_fetched, rows_describe_the_run, shown_stored_values_are_in_memory,
+    traces_show_the_end,
+};
 pub use step::{TracedStep, TracedSteps, WriteEffect};
 pub use trace::{Trace, trace_job, trace_run};
 pub use trace_lines::push_trace;

@@ -2,7 +2,7 @@
 use Rattle.std.specs.Prelude.{◌≡◌, Bool, true, false}
 use Rattle.rv_fleet.specs.declared_lists_error.JobError.{JobError}
 use Rattle.rvfleet_app.specs.declared.error.ListError.{ListError}
-use Rattle.rvfleet_app.specs.declared.error.ListError.TheVariants.{Failed, Refused}
+use Rattle.rvfleet_app.specs.declared.error.ListError.TheVariants.{Failed, Invalid}
 use Rattle.rv_fleet.specs.declared_lists_error.What.TheVariants as what
 use Rattle.rv_fleet.specs.declared.fleet.FleetError.{FleetError}
 use Rattle.rv_fleet.specs.declared.fleet.FleetError.TheVariants as fleet_error
@@ -61,10 +61,10 @@ is_list_failure _ = true
 
 -- if reading a list ended with a failure, it is one that running a job list can cause; always true if the list is invalid
 abbrev pub IsListFailure : ListError → Type 0
-IsListFailure (Refused error) = Unit {0}
+IsListFailure (Invalid error) = Unit {0}
 IsListFailure (Failed failure) = is_list_failure failure ≡ true
 
--- the error of a list that was not parsed: `Failed` if memory ran out, and otherwise `Refused` with the parser's error
+-- the error of a list that was not parsed: `Failed` if memory ran out, and otherwise `Invalid` with the parser's error
 abbrev pub IsListError : JobError → ListError → Type 0
-IsListError error (Refused reported) = (reported ≡ error) × (error.what ≡ what.OutOfMemory → ⊥)
+IsListError error (Invalid reported) = (reported ≡ error) × (error.what ≡ what.OutOfMemory → ⊥)
 IsListError error (Failed reported) = (reported ≡ failure.OutOfMemory) × (error.what ≡ what.OutOfMemory)

@@ -10,7 +10,7 @@ use Rattle.rv_fleet.specs.Plans.{AgreeWithContents, PlanView, after_increments, 
 use Rattle.rv_files.specs.Files.{FileContents}
 use Rattle.rv_fleet.specs.Kept.{AgreesWithContents}
 use Rattle.rvfleet_app.specs.declared.error.ListError.{ListError}
-use Rattle.rvfleet_app.specs.declared.error.ListError.TheVariants.{Failed, Refused}
+use Rattle.rvfleet_app.specs.declared.error.ListError.TheVariants.{Failed, Invalid}
 
 -- the contents of a store, if they are known, and its count of unreadable files before and after the run
 pub record Stored : Type 0 where
@@ -45,5 +45,5 @@ IsPossibleListError contents path error =
 
 -- if reading a list ended because the list is invalid, the store can have a list with this error at the path
 abbrev pub IsListFault : Option FileContents → List ℕ → ListError → Type 0
-IsListFault contents path (Refused error) = IsPossibleListError contents path error
+IsListFault contents path (Invalid error) = IsPossibleListError contents path error
 IsListFault contents path (Failed failure) = Unit {0}

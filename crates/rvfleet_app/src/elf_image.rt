@@ -24,7 +24,7 @@ use std::alloc::Global;
 #[derive(Clone, Copy, Debug, PartialEq, Eq)]
 pub enum ScriptError {
     /// They are invalid: not hexadecimal, or an odd number of them, or they encode more than 65,536 bytes.
-    Refused,
+    Invalid,
     /// An allocation failed.
     OutOfMemory,
 }
@@ -54,7 +54,7 @@ pub fn read_script(alloc: Global, digits: Option<&str>) -> Result<Vec<u8>, Scrip
         (λ script. script_bytes (option_map (λ text. text.now) digits.entry) ≡ Ok script.items) }
     ensures room { IfOk result (λ script. vec_len script ≤ max_script_len) }
     ensures refused { IfErr result
-        (λ error. error ≡ ScriptError.Refused
+        (λ error. error ≡ ScriptError.Invalid
         → is_bad_script (script_bytes (option_map (λ text. text.now) digits.entry)) ≡ true) }
 {
     let Some(digits) = digits else {
@@ -63,7 +63,7 @@ pub fn read_script(alloc: Global, digits: Option<&str>) -> Result<Vec<u8>, Scrip
     match hex::decode(alloc, digits) {
         Ok(script) if script.len() <= MAX_SCRIPT_LEN => Ok(script),
         Err(FromHexError::OutOfMemory) => Err(ScriptError::OutOfMemory),
-        Ok(_) | Err(_) => Err(ScriptError::Refused),
+        Ok(_) | Err(_) => Err(ScriptError::Invalid),
     }
 }
 
@@ -81,15 +81,15 @@ pub fn run_image<S: Store, O: Sink>(
         × IsReportSent (O.accepted out.old) (O.accepted out.new) status rows)) }
     ensures range { IfOk result (λ status. status ≤ 1) }
     ensures counted { OnOk result (O.failure_count out.new ≡ O.failure_count out.old) }
-    ensures why { IfErr result (λ failure. is_write_failure failure ≡ true) }
-    ensures part { OnErr result (Keeps (O.accepted out.old) (O.accepted out.new)
+    ensures failure_kind { IfErr result (λ failure. is_write_failure failure ≡ true) }
+    ensures prefix_written { OnErr result (Keeps (O.accepted out.old) (O.accepted out.new)
         ⊎ ((rows : List ARow)
         × (AreJobRows (stored_contents (S.contents store.old) (S.fault_count store.old) (S.fault_count store.new))
         (single_image_jobs run.entry.path.now run.entry.budget run.entry.script.items) rows
         × IsReportPrefixWritten (O.accepted out.old) (O.accepted out.new) rows))) }
     ensures failed { IfErr result
         (λ error. error ≡ Failure.WriteFailed → HasIncreased (O.failure_count out.old) (O.failure_count out.new)) }
-    ensures same { S.contents store.new ≡ S.contents store.old }
+    ensures contents_unchanged { S.contents store.new ≡ S.contents store.old }
 {
     let ImageRun {
         path,

@@ -48,7 +48,7 @@ pub enum Failure {
 #[derive(Clone, Copy, Debug, PartialEq, Eq)]
 pub enum ListError {
     /// The list is invalid.
-    Refused(JobError),
+    Invalid(JobError),
     /// The list was not read, or memory ran out.
     Failed(Failure),
 }

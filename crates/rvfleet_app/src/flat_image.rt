@@ -34,7 +34,7 @@ pub fn run_raw<R: Read, O: Sink>(
     ensures counted { OnOk result (O.failure_count out.new ≡ O.failure_count out.old) }
     ensures unread { IfErr result
         (λ error. error ≡ RunError.ReadFailed → Keeps (O.accepted out.old) (O.accepted out.new)) }
-    ensures part { OnErr result (Keeps (O.accepted out.old) (O.accepted out.new)
+    ensures prefix_written { OnErr result (Keeps (O.accepted out.old) (O.accepted out.new)
         ⊎ ((rows : List ARow) × (AreRawRows (R.remaining input.old) budget rows
         × IsReportPrefixWritten (O.accepted out.old) (O.accepted out.new) rows))) }
     ensures failed { IfErr result

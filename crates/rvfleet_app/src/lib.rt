@@ -25,6 +25,6 @@ pub use status::{
 };
 
 // Re-exports from lower crates: the types in this interface, and what its callers need with them.
-pub use rv_cli::rvfleet::{Request, read_words};
+pub use rv_cli::rvfleet::{Request, parse_args};
 pub use rv_files::{FileStore, ReadError, Sink, SinkFailed, Store, StreamSink, Text, put_all};
 pub use rv_fleet::FreeGate;

@@ -16,14 +16,14 @@ use std::alloc::Global;
 use std::sync::Wait;
 use std::thread::Threads;
 
-/// Reads the job list at a path of the store, and returns its jobs. The error is `Refused` if the list is invalid, and `Failed` if it could
+/// Reads the job list at a path of the store, and returns its jobs. The error is `Invalid` if the list is invalid, and `Failed` if it could
 /// not be read or memory ran out.
 pub fn read_list<S: Store>(alloc: Global, store: &mut S, path: &str) -> Result<JobList, ListError>
-    ensures same { S.contents store.new ≡ S.contents store.old }
+    ensures contents_unchanged { S.contents store.new ≡ S.contents store.old }
     ensures listed { IfOk result (IsPossibleList (S.contents store.old) path.now) }
     ensures unfaulted { OnOk result (S.fault_count store.new ≡ S.fault_count store.old) }
     ensures refused { IfErr result (IsListFault (S.contents store.old) path.now) }
-    ensures why { IfErr result IsListFailure }
+    ensures failure_kind { IfErr result IsListFailure }
 {
     let bytes = match store.read(alloc, path) {
         Ok(bytes) => bytes,
@@ -46,13 +46,13 @@ fn list_read_failure(error: ReadError) -> Failure
     }
 }
 
-// Returns the error for a list that was not parsed: `Failed` if memory ran out, and otherwise `Refused`.
+// Returns the error for a list that was not parsed: `Failed` if memory ran out, and otherwise `Invalid`.
 fn job_list_error(error: JobError) -> ListError
     ensures { IsListError error result }
 {
     match error.what {
         What::OutOfMemory => ListError::Failed(Failure::OutOfMemory),
-        _ => ListError::Refused(error),
+        _ => ListError::Invalid(error),
     }
 }
 
@@ -72,15 +72,15 @@ pub fn run_jobs<R: Threads + Wait, S: Store, O: Sink, G: Gate>(
         × IsReportSent (O.accepted out.old) (O.accepted out.new) status rows)) }
     ensures range { IfOk result (λ status. status ≤ 1) }
     ensures counted { OnOk result (O.failure_count out.new ≡ O.failure_count out.old) }
-    ensures why { IfErr result (λ failure. is_list_failure failure ≡ true) }
-    ensures part { OnErr result (Keeps (O.accepted out.old) (O.accepted out.new)
+    ensures failure_kind { IfErr result (λ failure. is_list_failure failure ≡ true) }
+    ensures prefix_written { OnErr result (Keeps (O.accepted out.old) (O.accepted out.new)
         ⊎ ((rows : List ARow)
         × (AreJobRows (stored_contents (S.contents store.old) (S.fault_count store.old) (S.fault_count store.new))
         jobs rows
         × IsReportPrefixWritten (O.accepted out.old) (O.accepted out.new) rows))) }
     ensures failed { IfErr result
         (λ error. error ≡ Failure.WriteFailed → HasIncreased (O.failure_count out.old) (O.failure_count out.new)) }
-    ensures same { S.contents store.new ≡ S.contents store.old }
+    ensures contents_unchanged { S.contents store.new ≡ S.contents store.old }
 {
     let alloc = crew.alloc;
     let plan = gather(alloc, jobs, store)?;

@@ -24,7 +24,7 @@ use crate::status::{
 };
 use clap::Error;
 use clap::error::ErrorKind;
-use rv_cli::rvfleet::{Request, read_words};
+use rv_cli::rvfleet::{Request, parse_args};
 use rv_files::{Sink, Store, put_all};
 use rv_fleet::{Crew, Gate};
 use std::alloc::Global;
@@ -48,18 +48,18 @@ pub fn run_words<'a, R: Threads + Wait, T: AsStr, S: Store, I: Read, O: Sink, E:
     gate: &G,
 ) -> u8
     // Arguments that `clap` accepts make a request.
-    ensures asked { are_arguments_accepted (map T.text words.entry.now) ≡ true
+    ensures makes_request { are_arguments_accepted (map T.text words.entry.now) ≡ true
         → is_some (request_of (map T.text words.entry.now)) ≡ true }
     // For arguments that `clap` accepts, or in which it finds no error, the report of their request is written in full, in part or not at
     // all, as the status says.
-    ensures answers { IsToBeHandled (map T.text words.entry.now)
+    ensures response { IsToBeHandled (map T.text words.entry.now)
         → IsResponse (request_of (map T.text words.entry.now)) (I.remaining input.old)
         (stored_contents (S.contents store.old) (S.fault_count store.old) (S.fault_count store.new))
         (O.accepted out.old) (O.accepted out.new) result }
     // No write to `out` failed if the status is 0 or 1.
     ensures counted { result ≡ 0 ⊎ result ≡ 1 → O.failure_count out.new ≡ O.failure_count out.old }
     // For status 2 or 3, a line on `errors` says why; otherwise nothing is written there.
-    ensures told { ReportsReason (request_without_errors (map T.text words.entry.now)) (S.contents store.old)
+    ensures error_reported { ReportsReason (request_without_errors (map T.text words.entry.now)) (S.contents store.old)
         (E.accepted errors.old) (E.accepted errors.new)
         (E.failure_count errors.old) (E.failure_count errors.new) result }
     // Status 0 or 1 means that the arguments make a request or request help.
@@ -70,15 +70,15 @@ pub fn run_words<'a, R: Threads + Wait, T: AsStr, S: Store, I: Read, O: Sink, E:
     ensures unread { reads_store (request_without_errors (map T.text words.entry.now)) ≡ false
         → S.fault_count store.new ≡ S.fault_count store.old }
     // The input is not read unless the arguments request it.
-    ensures untaken { reads_input (request_without_errors (map T.text words.entry.now)) ≡ false
+    ensures input_unread { reads_input (request_without_errors (map T.text words.entry.now)) ≡ false
         → I.remaining input.new ≡ I.remaining input.old }
     // The status is 0, 1, 2 or 3.
     ensures range { result ≤ 3 }
 {
-    match read_words(alloc, words) {
-        Ok(Some(asked)) => {
+    match parse_args(alloc, words) {
+        Ok(Some(args)) => {
             let host = Host { rt, alloc, gate };
-            host.respond_to_request(asked, store, input, out, errors)
+            host.respond_to_request(args, store, input, out, errors)
         }
         Ok(None) => reject_arguments(errors),
         Err(error) => respond_to_clap_error(alloc, &error, out, errors),
@@ -113,51 +113,51 @@ impl<'a, R: Threads + Wait, G: Gate> Host<'a, R, G> {
     // Responds to a request and returns the exit status.
     fn respond_to_request<S: Store, I: Read, O: Sink, E: Sink>(
         &self,
-        asked: Request<'_>,
+        args: Request<'_>,
         store: &mut S,
         input: &mut I,
         out: &mut O,
         errors: &mut E,
     ) -> u8
-        requires { IsRequestInRange asked }
-        ensures answers { IsResponse (Some (request asked.entry)) (I.remaining input.old)
+        requires { IsRequestInRange args }
+        ensures response { IsResponse (Some (request args.entry)) (I.remaining input.old)
             (stored_contents (S.contents store.old) (S.fault_count store.old) (S.fault_count store.new))
             (O.accepted out.old) (O.accepted out.new) result }
-        ensures told { ReportsReason (Some (request asked.entry)) (S.contents store.old)
+        ensures error_reported { ReportsReason (Some (request args.entry)) (S.contents store.old)
             (E.accepted errors.old) (E.accepted errors.new)
             (E.failure_count errors.old) (E.failure_count errors.new) result }
         ensures counted { result ≡ 0 ⊎ result ≡ 1 → O.failure_count out.new ≡ O.failure_count out.old }
-        ensures unread { reads_store (Some (request asked.entry)) ≡ false
+        ensures unread { reads_store (Some (request args.entry)) ≡ false
             → S.fault_count store.new ≡ S.fault_count store.old }
-        ensures untaken { reads_input (Some (request asked.entry)) ≡ false
+        ensures input_unread { reads_input (Some (request args.entry)) ≡ false
             → I.remaining input.new ≡ I.remaining input.old }
         ensures range { result ≤ 3 }
     {
-        match asked {
+        match args {
             Request::Raw { budget } => respond_to_raw(self.alloc, budget, input, out, errors),
             Request::One {
                 image,
                 budget,
                 input_hex,
             } => {
-                let asked = ImageArgs {
+                let args = ImageArgs {
                     path: image,
                     budget,
                     digits: input_hex,
                 };
-                respond_to_image(self.alloc, &asked, store, out, errors)
+                respond_to_image(self.alloc, &args, store, out, errors)
             }
             Request::Run {
                 jobs,
                 workers,
                 group,
             } => {
-                let asked = ListArgs {
+                let args = ListArgs {
                     path: jobs,
                     workers,
                     group,
                 };
-                self.respond_to_list(&asked, store, out, errors)
+                self.respond_to_list(&args, store, out, errors)
             }
         }
     }
@@ -166,33 +166,33 @@ impl<'a, R: Threads + Wait, G: Gate> Host<'a, R, G> {
     // are read.
     fn respond_to_list<S: Store, O: Sink, E: Sink>(
         &self,
-        asked: &ListArgs<'_>,
+        args: &ListArgs<'_>,
         store: &mut S,
         out: &mut O,
         errors: &mut E,
     ) -> u8
-        requires workers { (1 ≤ asked.now.workers) × (asked.now.workers ≤ max_workers) }
-        requires group { (1 ≤ asked.now.group) × (asked.now.group ≤ max_group) }
-        ensures answers { IsResponse
-            (Some (run asked.now.path.now asked.now.workers asked.now.group)) None
+        requires workers { (1 ≤ args.now.workers) × (args.now.workers ≤ max_workers) }
+        requires group { (1 ≤ args.now.group) × (args.now.group ≤ max_group) }
+        ensures response { IsResponse
+            (Some (run args.now.path.now args.now.workers args.now.group)) None
             (stored_contents (S.contents store.old) (S.fault_count store.old) (S.fault_count store.new))
             (O.accepted out.old) (O.accepted out.new) result }
-        ensures told { ReportsReason
-            (Some (run asked.now.path.now asked.now.workers asked.now.group))
+        ensures error_reported { ReportsReason
+            (Some (run args.now.path.now args.now.workers args.now.group))
             (S.contents store.old) (E.accepted errors.old) (E.accepted errors.new)
             (E.failure_count errors.old) (E.failure_count errors.new) result }
         ensures counted { result ≡ 0 ⊎ result ≡ 1 → O.failure_count out.new ≡ O.failure_count out.old }
         ensures range { result ≤ 3 }
     {
-        if is_bad_path(asked.path) {
+        if is_bad_path(args.path) {
             return reject_arguments(errors);
         }
-        let jobs = match read_list(self.alloc, store, asked.path) {
+        let jobs = match read_list(self.alloc, store, args.path) {
             Ok(jobs) => jobs,
-            Err(ListError::Refused(error)) => return reject_list(self.alloc, errors, error),
+            Err(ListError::Invalid(error)) => return reject_list(self.alloc, errors, error),
             Err(ListError::Failed(failure)) => return write_failure_line(errors, failure),
         };
-        let crew = Crew::new(self.rt, self.alloc, asked.workers, asked.group);
+        let crew = Crew::new(self.rt, self.alloc, args.workers, args.group);
         match run_jobs(&crew, jobs, store, out, self.gate) {
             Ok(status) => status,
             Err(failure) => write_failure_line(errors, failure),
@@ -213,12 +213,12 @@ fn respond_to_raw<I: Read, O: Sink, E: Sink>(
         → (rows : List Row) × (AreRawRows (I.remaining input.old) budget rows
         × IsReportSent (O.accepted out.old) (O.accepted out.new) DONE rows) }
     ensures counted { result ≡ DONE → O.failure_count out.new ≡ O.failure_count out.old }
-    ensures part { result ≡ FAILED → Keeps (O.accepted out.old) (O.accepted out.new)
+    ensures prefix_written { result ≡ FAILED → Keeps (O.accepted out.old) (O.accepted out.new)
         ⊎ ((rows : List Row) × (AreRawRows (I.remaining input.old) budget rows
         × IsReportPrefixWritten (O.accepted out.old) (O.accepted out.new) rows)) }
     ensures quiet { result ≡ DONE → IsQuiet (E.accepted errors.old) (E.accepted errors.new)
         (E.failure_count errors.old) (E.failure_count errors.new) }
-    ensures told { result ≡ FAILED → ReportsFailure (Some (raw budget))
+    ensures error_reported { result ≡ FAILED → ReportsFailure (Some (raw budget))
         (E.accepted errors.old) (E.accepted errors.new) (E.failure_count errors.old) (E.failure_count errors.new) }
     ensures range { result ≡ DONE ⊎ result ≡ FAILED }
 {
@@ -231,36 +231,36 @@ fn respond_to_raw<I: Read, O: Sink, E: Sink>(
 // Responds to a request to run one image, and returns the exit status. The path and the digits are checked before the store is read.
 fn respond_to_image<S: Store, O: Sink, E: Sink>(
     alloc: Global,
-    asked: &ImageArgs<'_>,
+    args: &ImageArgs<'_>,
     store: &mut S,
     out: &mut O,
     errors: &mut E,
 ) -> u8
-    requires { (1 ≤ asked.now.budget) × (asked.now.budget ≤ max_budget) }
-    ensures answers { IsResponse
-        (Some (one asked.now.path.now asked.now.budget
-        (option_map (λ text. text.now) asked.now.digits))) None
+    requires { (1 ≤ args.now.budget) × (args.now.budget ≤ max_budget) }
+    ensures response { IsResponse
+        (Some (one args.now.path.now args.now.budget
+        (option_map (λ text. text.now) args.now.digits))) None
         (stored_contents (S.contents store.old) (S.fault_count store.old) (S.fault_count store.new))
         (O.accepted out.old) (O.accepted out.new) result }
-    ensures told { ReportsReason
-        (Some (one asked.now.path.now asked.now.budget
-        (option_map (λ text. text.now) asked.now.digits)))
+    ensures error_reported { ReportsReason
+        (Some (one args.now.path.now args.now.budget
+        (option_map (λ text. text.now) args.now.digits)))
         (S.contents store.old) (E.accepted errors.old) (E.accepted errors.new)
         (E.failure_count errors.old) (E.failure_count errors.new) result }
     ensures counted { result ≡ 0 ⊎ result ≡ 1 → O.failure_count out.new ≡ O.failure_count out.old }
     ensures range { result ≤ 3 }
 {
-    if is_bad_path(asked.path) {
+    if is_bad_path(args.path) {
         return reject_arguments(errors);
     }
-    let script = match read_script(alloc, asked.digits) {
+    let script = match read_script(alloc, args.digits) {
         Ok(script) => script,
-        Err(ScriptError::Refused) => return reject_arguments(errors),
+        Err(ScriptError::Invalid) => return reject_arguments(errors),
         Err(ScriptError::OutOfMemory) => return write_failure_line(errors, Failure::OutOfMemory),
     };
     let run = ImageRun {
-        path: asked.path,
-        budget: asked.budget,
+        path: args.path,
+        budget: args.budget,
         script,
     };
     match run_image(alloc, run, store, out) {
@@ -286,7 +286,7 @@ fn respond_to_clap_error<O: Sink, E: Sink>(
     ensures refused { result ≡ BAD_ARGUMENTS
         → IsLineWritten (E.accepted errors.old) (E.accepted errors.new)
         (E.failure_count errors.old) (E.failure_count errors.new) bad_arguments_line }
-    ensures told { result ≡ FAILED → ReportsFailure None (E.accepted errors.old) (E.accepted errors.new)
+    ensures error_reported { result ≡ FAILED → ReportsFailure None (E.accepted errors.old) (E.accepted errors.new)
         (E.failure_count errors.old) (E.failure_count errors.new) }
     ensures range { result ≡ DONE ⊎ result ≡ BAD_ARGUMENTS ⊎ result ≡ FAILED }
 {
@@ -302,7 +302,7 @@ fn write_help<O: Sink, E: Sink>(alloc: Global, help: &Error, out: &mut O, errors
     ensures counted { result ≡ DONE → O.failure_count out.new ≡ O.failure_count out.old }
     ensures quiet { result ≡ DONE → IsQuiet (E.accepted errors.old) (E.accepted errors.new)
         (E.failure_count errors.old) (E.failure_count errors.new) }
-    ensures told { result ≡ FAILED → ReportsFailure None (E.accepted errors.old) (E.accepted errors.new)
+    ensures error_reported { result ≡ FAILED → ReportsFailure None (E.accepted errors.old) (E.accepted errors.new)
         (E.failure_count errors.old) (E.failure_count errors.new) }
     ensures range { result ≡ DONE ⊎ result ≡ FAILED }
 {

@@ -18,8 +18,8 @@ pub fn send_report<O: Sink>(alloc: Global, report: &Report, out: &mut O) -> Resu
         (λ status. IsReportSent (O.accepted out.old) (O.accepted out.new) status report.now.rows) }
     ensures range { IfOk result (λ status. status ≤ 1) }
     ensures counted { OnOk result (O.failure_count out.new ≡ O.failure_count out.old) }
-    ensures why { IfErr result (λ failure. is_write_failure failure ≡ true) }
-    ensures part { OnErr result (IsReportPrefixWritten (O.accepted out.old) (O.accepted out.new) report.now.rows) }
+    ensures failure_kind { IfErr result (λ failure. is_write_failure failure ≡ true) }
+    ensures prefix_written { OnErr result (IsReportPrefixWritten (O.accepted out.old) (O.accepted out.new) report.now.rows) }
     ensures failed { IfErr result
         (λ error. error ≡ Failure.WriteFailed → HasIncreased (O.failure_count out.old) (O.failure_count out.new)) }
 {

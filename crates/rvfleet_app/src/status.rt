@@ -24,7 +24,7 @@ pub const FAILED: u8 = 3;
 /// Writes the line for rejected arguments, and returns the status 2.
 pub fn reject_arguments<E: Sink>(errors: &mut E) -> u8
     ensures status { result ≡ BAD_ARGUMENTS }
-    ensures told { IsLineWritten (E.accepted errors.old) (E.accepted errors.new)
+    ensures error_reported { IsLineWritten (E.accepted errors.old) (E.accepted errors.new)
         (E.failure_count errors.old) (E.failure_count errors.new) bad_arguments_line }
 {
     write_error_line(errors, "rvfleet: bad words\n");
@@ -35,7 +35,7 @@ pub fn reject_arguments<E: Sink>(errors: &mut E) -> u8
 /// that, and returns 3.
 pub fn reject_list<E: Sink>(alloc: Global, errors: &mut E, error: JobError) -> u8
     ensures status { result ≡ BAD_ARGUMENTS ⊎ result ≡ FAILED }
-    ensures told { result ≡ BAD_ARGUMENTS
+    ensures error_reported { result ≡ BAD_ARGUMENTS
         → IsLineWritten (E.accepted errors.old) (E.accepted errors.new)
         (E.failure_count errors.old) (E.failure_count errors.new) (fault_line error) }
     ensures failed { result ≡ FAILED → IsLineWritten (E.accepted errors.old) (E.accepted errors.new)
@@ -53,7 +53,7 @@ pub fn reject_list<E: Sink>(alloc: Global, errors: &mut E, error: JobError) -> u
 /// Writes the line for a failure, and returns the status 3.
 pub fn write_failure_line<E: Sink>(errors: &mut E, failure: Failure) -> u8
     ensures status { result ≡ FAILED }
-    ensures told { IsLineWritten (E.accepted errors.old) (E.accepted errors.new)
+    ensures error_reported { IsLineWritten (E.accepted errors.old) (E.accepted errors.new)
         (E.failure_count errors.old) (E.failure_count errors.new) (failure_line failure) }
 {
     write_error_line(errors, failure_line(failure));

@@ -27,11 +27,11 @@ fn output_of(
     let mut streams = Streams::new(alloc, part(case, 5), bytes);
     let mut store = SampleStore::new(alloc, case);
     let status = streams.run(rt, alloc, part(case, 2), &mut store)?;
-    streams.told(alloc, store.faults, store.log.as_str(), status)
+    streams.output_text(alloc, store.faults, store.log.as_str(), status)
 }
 
 // Returns the output of the program for a case.
-fn told(rt: &(impl Threads + Wait), alloc: Global, case: &str) -> Result<String, Fail> {
+fn output_of_case(rt: &(impl Threads + Wait), alloc: Global, case: &str) -> Result<String, Fail> {
     let bytes = numbers(alloc, part(case, 6))?;
     output_of(rt, alloc, case, &bytes)
 }
@@ -56,14 +56,14 @@ fn summary_part<'a>(view: &str, line: &'a str) -> &'a str {
 
 // Returns the summary of an output, separated by spaces: the reads if `view` requests them, the status, the error output, and the parts of
 // the report's lines that `summary_part` returns.
-fn summary(alloc: Global, view: &str, told: &str) -> Result<String, AllocError> {
+fn summary(alloc: Global, view: &str, output: &str) -> Result<String, AllocError> {
     let mut text = String::new(alloc);
     if view.contains("reads") {
-        push_word(&mut text, cell_of(told, 1))?;
+        push_word(&mut text, cell_of(output, 1))?;
     }
-    push_word(&mut text, cell_of(told, 2))?;
-    push_word(&mut text, cell_of(told, 3))?;
-    for line in part(told, 4).lines() {
+    push_word(&mut text, cell_of(output, 2))?;
+    push_word(&mut text, cell_of(output, 3))?;
+    for line in part(output, 4).lines() {
         push_word(&mut text, summary_part(view, line))?;
     }
     Ok(text)
@@ -71,65 +71,65 @@ fn summary(alloc: Global, view: &str, told: &str) -> Result<String, AllocError> 
 
 // Returns the part of an output that is compared: if `view` is a number, everything after that many bars, and otherwise the summary for the
 // words in `view`.
-fn compared_part(alloc: Global, view: &str, told: &str) -> Result<String, AllocError> {
+fn compared_part(alloc: Global, view: &str, output: &str) -> Result<String, AllocError> {
     match view.parse::<usize>() {
         Ok(bars) => {
-            let mut parts = told.splitn(bars.saturating_add(1), '|');
+            let mut parts = output.splitn(bars.saturating_add(1), '|');
             String::from_str(alloc, parts.nth(bars).unwrap_or(""))
         }
-        Err(_) => summary(alloc, view, told),
+        Err(_) => summary(alloc, view, output),
     }
 }
 
-// Returns the compared part of the output for a row; `ask` is the form of the input.
+// Returns the compared part of the output for a row; `input_form` is the form of the input.
 fn actual_output(
     rt: &(impl Threads + Wait),
     alloc: Global,
-    ask: &str,
+    input_form: &str,
     row: &str,
 ) -> Result<String, Fail> {
-    let case = form_text(alloc, ask, row)?;
-    let told = told(rt, alloc, case.as_str())?;
-    Ok(compared_part(alloc, part(case.as_str(), 1), told.as_str())?)
+    let case = form_text(alloc, input_form, row)?;
+    let output = output_of_case(rt, alloc, case.as_str())?;
+    Ok(compared_part(alloc, part(case.as_str(), 1), output.as_str())?)
 }
 
 // Checks the output for a row, given the forms of the input and of the expected output.
 fn check_row(
     rt: &(impl Threads + Wait),
     alloc: Global,
-    ask: &str,
-    wanted: &str,
+    input_form: &str,
+    expected_form: &str,
     row: &str,
 ) -> Result<(), Fail> {
-    let wanted = form_text(alloc, wanted, row)?;
-    let answer = actual_output(rt, alloc, ask, row)?;
-    check_equal(row, answer.as_str(), wanted.as_str())
+    let expected = form_text(alloc, expected_form, row)?;
+    let actual = actual_output(rt, alloc, input_form, row)?;
+    check_equal(row, actual.as_str(), expected.as_str())
 }
 
 // Checks the output for a row in which each `%` is replaced by a number.
 fn check_numbered(
     rt: &(impl Threads + Wait),
     alloc: Global,
-    ask: &str,
-    wanted: &str,
+    input_form: &str,
+    expected_form: &str,
     row: &str,
     number: usize,
 ) -> Result<(), Fail> {
     let row = numbered(alloc, row, number)?;
-    check_row(rt, alloc, ask, wanted, row.as_str())
+    check_row(rt, alloc, input_form, expected_form, row.as_str())
 }
 
 // Checks the outputs for a line, which is one row or represents several numbered rows.
 fn check_line(
     rt: &(impl Threads + Wait),
     alloc: Global,
-    ask: &str,
-    wanted: &str,
+    input_form: &str,
+    expected_form: &str,
     line: &str,
 ) -> Result<(), Fail> {
     let (count, row) = line.split_once(" rows: ").unwrap_or(("1", line));
     for number in 0..count.parse::<usize>()? {
-        check_numbered(rt, alloc, ask, wanted, row, number)?;
+        check_numbered(rt, alloc, input_form, expected_form, row, number)?;
     }
     Ok(())
 }
@@ -138,20 +138,20 @@ fn check_line(
 fn check_parts(
     rt: &(impl Threads + Wait),
     alloc: Global,
-    ask: &str,
-    wanted: &str,
+    input_form: &str,
+    expected_form: &str,
     rows: &str,
 ) -> Result<(), Fail> {
-    check_line_count(rows, part(ask, 0).parse::<usize>()?)?;
+    check_line_count(rows, part(input_form, 0).parse::<usize>()?)?;
     for line in rows.lines() {
-        check_line(rt, alloc, ask, wanted, line)?;
+        check_line(rt, alloc, input_form, expected_form, line)?;
     }
     Ok(())
 }
 
 // Returns the part of a table with this index, from 0.
-fn part_of_table(table: &str, place: usize) -> &str {
-    table.split("\n====\n").nth(place).unwrap_or("")
+fn part_of_table(table: &str, index: usize) -> &str {
+    table.split("\n====\n").nth(index).unwrap_or("")
 }
 
 /// The key that `$S` represents in a table.
@@ -160,8 +160,14 @@ const SIGNATURE: &str = "signature = ['begin_signature', 'end_signature']";
 // Checks that the program has the expected output for each row of a table.
 fn check_table(rt: &(impl Threads + Wait), alloc: Global, table: &str) -> Result<(), Fail> {
     let table = table.replace(alloc, "$S", SIGNATURE)?;
-    let (ask, wanted) = (part_of_table(&table, 0), part_of_table(&table, 1));
-    check_parts(rt, alloc, ask, wanted, part_of_table(&table, 2))
+    let (input_form, expected_form) = (part_of_table(&table, 0), part_of_table(&table, 1));
+    check_parts(
+        rt,
+        alloc,
+        input_form,
+        expected_form,
+        part_of_table(&table, 2),
+    )
 }
 
 /// Checks that the program has the expected output for each row of these tables.

@@ -95,7 +95,7 @@ bytes 00 | sign | exit 0 9 | 0;jobs;sign;bytes 00;
 
 // A job with `same_as` is compared with the outcome of the other job, whatever its verdict. Each file is read once, and none is missing.
 // The rows are the arguments.
-const NAMING: &str = "\
+const COMPARED: &str = "\
 3|reads verdict|$_|[[job]]
 name = 'a'
 image = 'one'
@@ -135,5 +135,5 @@ rvfleet run jobs --workers 64
 // A verdict compares the console output, the end and the exit code of a run with the expectations of the job.
 #[test]
 fn judges_consoles_and_endings(rt: HostRuntime) -> Result<(), Fail> {
-    check(&rt, rt.alloc(), &[RUNS, FULL_CONSOLES, REFERRING, NAMING])
+    check(&rt, rt.alloc(), &[RUNS, FULL_CONSOLES, REFERRING, COMPARED])
 }

@@ -102,7 +102,7 @@ none/done 1/
 ";
 
 // The bytes of a reader that returns one byte per read, and fails after the last one. Nothing is written.
-const BROKEN_OFF: &str = "\
+const FAILED_INPUT: &str = "\
 14|0|rvfleet raw --budget 3|||read_most=1 read_fails|$_
 ====
 0 0 0 0|0;|3|rvfleet: read failed/|
@@ -134,7 +134,7 @@ const LEFT_INPUT: &str = "\
 
 // The line on standard error cannot be written: arguments | the status | the number of files that are not found, and the paths that are
 // read
-const UNTOLD: &str = "\
+const UNWRITTEN_ERROR_LINES: &str = "\
 2|0|rvfleet $0||jobs = missing|line=0
 ====
 0 0 1 0|$2|$1||
@@ -151,9 +151,9 @@ fn stops_where_a_read_or_a_write_fails(rt: HostRuntime) -> Result<(), Fail> {
         CUT_REPORTS,
         RAW_PUTS,
         CUT_PUTS,
-        BROKEN_OFF,
+        FAILED_INPUT,
         LEFT_INPUT,
-        UNTOLD,
+        UNWRITTEN_ERROR_LINES,
     ];
     check(&rt, rt.alloc(), &tables)
 }

@@ -22,9 +22,9 @@ done 1
 fn runs_a_file(rt: HostRuntime) -> Result<(), Fail> {
     fs::write(&rt, "image.elf", sample_file(rt.alloc(), "one")?)?;
     let line = "rvfleet one image.elf --budget 10";
-    let told = output_with_store(&rt, rt.alloc(), line, &mut FileStore::new(&rt))?;
+    let output = output_with_store(&rt, rt.alloc(), line, &mut FileStore::new(&rt))?;
     fs::remove_file(&rt, "image.elf")?;
-    check_equal(line, told.as_str(), IMAGE_REPORT)
+    check_equal(line, output.as_str(), IMAGE_REPORT)
 }
 
 // Reads the file at a path. Returns as text whether it has these bytes, or why it was not read.

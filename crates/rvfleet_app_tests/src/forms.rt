@@ -11,15 +11,15 @@ use std::alloc::{AllocError, Global};
 const CELLS: [&str; 10] = ["$0", "$1", "$2", "$3", "$4", "$5", "$6", "$7", "$8", "$9"];
 
 /// Returns the part of a text with this index, from 0; parts are separated by bars.
-pub(crate) fn part(text: &str, place: usize) -> &str {
-    text.split('|').nth(place).unwrap_or("")
+pub(crate) fn part(text: &str, index: usize) -> &str {
+    text.split('|').nth(index).unwrap_or("")
 }
 
 // Returns a form with the names of the cells, or of the row, replaced by their texts, and each slash by a line feed.
 fn with_cells(alloc: Global, form: &str, row: &str) -> Result<String, AllocError> {
     let mut text = form.replace(alloc, "$_", row)?;
-    for (place, name) in CELLS.iter().enumerate() {
-        text = text.as_str().replace(alloc, *name, cell_of(row, place))?;
+    for (index, name) in CELLS.iter().enumerate() {
+        text = text.as_str().replace(alloc, *name, cell_of(row, index))?;
     }
     text.as_str().replace(alloc, "/", "\n")
 }

@@ -65,10 +65,10 @@ fn check_output(
     alloc: Global,
     line: &str,
     bytes: &[u8],
-    wanted: &str,
+    expected: &str,
 ) -> Result<(), Fail> {
-    let told = output_with_store(rt, alloc, line, &mut KnownStore { bytes })?;
-    check_equal(line, told.as_str(), wanted)
+    let output = output_with_store(rt, alloc, line, &mut KnownStore { bytes })?;
+    check_equal(line, output.as_str(), expected)
 }
 
 // The program runs an image and a list from a store whose contents are known.

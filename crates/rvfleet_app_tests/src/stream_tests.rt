@@ -41,10 +41,10 @@ fn write_ten(fails_at: u64, flush_fails: bool) -> (bool, u64, u64, u64) {
         fails_at,
         flush_fails,
     });
-    let taken = put_all(&mut stream, b"ten bytes!").is_ok();
+    let accepted = put_all(&mut stream, b"ten bytes!").is_ok();
     let failures = stream.failures();
     let writer = stream.into_inner();
-    (taken, failures, writer.writes, writer.flushes)
+    (accepted, failures, writer.writes, writer.flushes)
 }
 
 // Each write to the sink makes one write and one flush of the stream; a failed write is not repeated, and counts as one failure.

@@ -39,7 +39,7 @@ impl MemorySink {
     }
 
     /// Returns the sink's text, the number of its successful writes, and the number of its failures.
-    pub(crate) fn taken(&self) -> Result<(&str, usize, u64), Fail> {
+    pub(crate) fn text_and_counts(&self) -> Result<(&str, usize, u64), Fail> {
         let text = std::str::from_utf8(self.bytes.as_slice())?;
         Ok((text, self.puts, self.failures))
     }
@@ -129,15 +129,15 @@ impl<'a> Streams<'a> {
     /// Returns the output as one text: how many writes succeeded, how many failed, how many failed for the line on standard error, and how
     /// many bytes of the input are left; a bar; the number of files that were not found, a semicolon, and the paths that were read; a bar;
     /// the status; a bar; the error output; a bar; and the standard output.
-    pub(crate) fn told(
+    pub(crate) fn output_text(
         &self,
         alloc: Global,
         faults: u64,
         paths: &str,
         status: u8,
     ) -> Result<String, Fail> {
-        let (out, puts, failures) = self.out.taken()?;
-        let (errors, _, lines) = self.errors.taken()?;
+        let (out, puts, failures) = self.out.text_and_counts()?;
+        let (errors, _, lines) = self.errors.text_and_counts()?;
         let left = self.input.bytes.len();
         Ok(format!(in alloc;
             "{puts} {failures} {lines} {left}|{faults};{paths}|{status}|{errors}|{out}"
@@ -163,5 +163,5 @@ pub(crate) fn output_with_store<S: Store>(
 ) -> Result<String, Fail> {
     let mut streams = Streams::new(alloc, "", &[]);
     let status = streams.run(rt, alloc, line, store)?;
-    streams.told(alloc, store.faults(), "", status)
+    streams.output_text(alloc, store.faults(), "", status)
 }

@@ -138,7 +138,7 @@ fetch-misaligned | code 00000013 0020006f | , isa = 'rv32im' | fail fail fail fa
 
 // All other jobs are compared with the first one. The rows of this table and of the next ones are numbers of jobs that a worker takes at a
 // time.
-const NAMED_BY_MANY: &str = "\
+const COMPARED_WITH_FIRST: &str = "\
 3|verdict|rvfleet run jobs --workers 2 --group $0|job = [{name = '0', image = 'one', budget = 3}, {name = '1', image \
 = 'one', budget = 4, same_as = '0'}, \
 {name = '2', image = 'one', budget = 2, same_as = '0'}, {name = '3', image = 'one', budget = 3, same_as = '0'}]
@@ -151,7 +151,7 @@ const NAMED_BY_MANY: &str = "\
 ";
 
 // Each job is compared with the one before.
-const NAMED_THE_ONE_BEFORE: &str = "\
+const COMPARED_WITH_PREVIOUS: &str = "\
 3|verdict|rvfleet run jobs --workers 2 --group $0|job = [{name = '0', image = 'one', budget = 3}, {name = '1', image \
 = 'one', budget = 3, same_as = \
 '0'}, {name = '2', image = 'one', budget = 2, same_as = '1'}, {name = '3', image = 'one', budget = 1, same_as = \
@@ -165,7 +165,7 @@ const NAMED_THE_ONE_BEFORE: &str = "\
 ";
 
 // The jobs are compared with two jobs in turn.
-const NAMED_BY_TURNS: &str = "\
+const COMPARED_IN_TURN: &str = "\
 3|verdict|rvfleet run jobs --workers 2 --group $0|job = [{name = '0', image = 'one', budget = 3}, {name = '1', image \
 = 'one', budget = 1}, {name = '2', \
 image = 'one', budget = 3, same_as = '0'}, {name = '3', image = 'one', budget = 1, same_as = '1'}, {name = '4', \
@@ -179,7 +179,7 @@ image = 'one', budget = 1, same_as = '0'}, {name = '5', image = 'one', budget = 
 ";
 
 // Two jobs are compared with a refused one.
-const NAMED_REFUSED: &str = "\
+const COMPARED_WITH_REFUSED: &str = "\
 3|verdict|rvfleet run jobs --workers 2 --group $0|job = [{name = '0', image = 'one 83', budget = 3}, {name = '1', \
 image = 'one 83', budget = 3, same_as = '0'}, \
 {name = '2', image = 'one', budget = 3, same_as = '0'}, {name = '3', image = 'one', budget = 3, same_as = '2'}]
@@ -192,7 +192,7 @@ image = 'one 83', budget = 3, same_as = '0'}, \
 ";
 
 // The images `falls` and `zeros` print 65,536 bytes: each one less than the one before, or all zero.
-const NAMED_FULL_CONSOLES: &str = "\
+const COMPARED_FULL_CONSOLES: &str = "\
 3|verdict|rvfleet run jobs --workers 2 --group $0|job = [{name = '0', image = 'falls', budget = 200000}, {name = \
 '1', image = 'falls', budget = 200000, \
 same_as = '0'}, {name = '2', image = 'zeros', budget = 200000, same_as = '0'}, {name = '3', image = 'falls', \
@@ -207,7 +207,7 @@ zeros = code 100002b7 00010337 0002a023 fff30313 fe031ce3 X
 ";
 
 // The jobs are compared with more jobs than there are cached outcomes.
-const NAMED_MORE_THAN_KEPT: &str = "\
+const COMPARED_BEYOND_CACHE: &str = "\
 3|verdict|rvfleet run jobs --workers 2 --group $0|job = [{name = '0', image = 'one', budget = 3}, {name = '1', image \
 = 'one', budget = 1}, {name = \
 '2', image = 'one', budget = 3, same_as = '0'}, {name = '3', image = 'one', budget = 3, same_as = '2'}, {name = \
@@ -235,12 +235,12 @@ fn judges_outcomes(rt: HostRuntime) -> Result<(), Fail> {
             TWO_REFUSED,
             ONE_REFUSED,
             KINDS,
-            NAMED_BY_MANY,
-            NAMED_THE_ONE_BEFORE,
-            NAMED_BY_TURNS,
-            NAMED_REFUSED,
-            NAMED_FULL_CONSOLES,
-            NAMED_MORE_THAN_KEPT,
+            COMPARED_WITH_FIRST,
+            COMPARED_WITH_PREVIOUS,
+            COMPARED_IN_TURN,
+            COMPARED_WITH_REFUSED,
+            COMPARED_FULL_CONSOLES,
+            COMPARED_BEYOND_CACHE,
         ],
     )
 }

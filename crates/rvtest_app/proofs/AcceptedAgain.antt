@@ -29,7 +29,7 @@ use Rattle.rv_accept_text.specs.declared.golden_file.GoldenFile.{GoldenFile}
 use Rattle.rv_files.specs.Files.{FileContents}
 use Rattle.rvtest_cli.specs.declared.accept.AcceptArgs.{AcceptArgs}
 use Rattle.rv_command.specs.Texts.{IsTextAt, optional_text}
-use Rattle.rv_files.specs.UnreadablePaths.{contents_below, resolved_path}
+use Rattle.rv_files.specs.UnreadablePaths.{contents_relative_to, resolved_path}
 use Rattle.rv_rows.specs.Jobs.{console_path, single_job, without_expectations}
 use Rattle.rv_rows.specs.Kept.{AgreesWithContents}
 use Rattle.rv_rows.specs.Plans.{AgreeWithContents, PlanView, result_or_unreadable}
@@ -57,14 +57,14 @@ record IsRead (store : FileContents) (root : Option (List ℕ)) (answers : List 
   holds : store (resolved_path root path) ≡ Some bytes
 
 read_here : (store : FileContents) (root : Option (List ℕ)) (answers : List PathResult) (path : List ℕ)
-    → AgreeWithContents (contents_below root (Some store)) answers → is_read (result_or_unreadable answers path) ≡ true
+    → AgreeWithContents (contents_relative_to root (Some store)) answers → is_read (result_or_unreadable answers path) ≡ true
     → IsRead store root answers path
 read_here store root [] path are read = cc
 read_here store root (answer ∷ answers) path are read = go (bytes_eq path answer.path) refl
-    (read_here store root answers path (All-tail (λ (a : PathResult). AgreesWithContents (contents_below root (Some store)) a.path a.kept)
+    (read_here store root answers path (All-tail (λ (a : PathResult). AgreesWithContents (contents_relative_to root (Some store)) a.path a.kept)
     answer answers are))
   where
-    at_start : (k : Kept) → answer.kept ≡ k → AgreesWithContents (contents_below root (Some store)) answer.path k → bytes_eq path answer.path ≡ true
+    at_start : (k : Kept) → answer.kept ≡ k → AgreesWithContents (contents_relative_to root (Some store)) answer.path k → bytes_eq path answer.path ≡ true
         → is_read k ≡ true → IsRead store root (answer ∷ answers) path
     at_start (kept.Content bytes) was of same read = record {
       bytes = bytes;
@@ -78,7 +78,7 @@ read_here store root (answer ∷ answers) path are read = go (bytes_eq path answ
         → (is_read (result_or_unreadable answers path) ≡ true → IsRead store root answers path)
         → IsRead store root (answer ∷ answers) path
     go true same behind = at_start answer.kept refl
-        (All-head (λ (a : PathResult). AgreesWithContents (contents_below root (Some store)) a.path a.kept) answer answers are) same
+        (All-head (λ (a : PathResult). AgreesWithContents (contents_relative_to root (Some store)) a.path a.kept) answer answers are) same
         (rw same at read)
     go false same behind =
         let there = behind (rw same at read) in
@@ -95,7 +95,7 @@ content_same bytes others is = cc
 
 -- a path that was read, and holds these bytes, is kept with them
 content_of : (store : FileContents) (root : Option (List ℕ)) (answers : List PathResult) (path bytes : List ℕ)
-    → AgreeWithContents (contents_below root (Some store)) answers → is_read (result_or_unreadable answers path) ≡ true
+    → AgreeWithContents (contents_relative_to root (Some store)) answers → is_read (result_or_unreadable answers path) ≡ true
     → store (resolved_path root path) ≡ Some bytes → result_or_unreadable answers path ≡ kept.Content bytes
 content_of store root answers path bytes are read holds =
     let there = read_here store root answers path are read in
@@ -288,8 +288,8 @@ module _ (args : AcceptArgs) (before after : FileContents) (bytes : List ℕ) (j
         left
 
     -- an image that ran is as it was
-    image_again : (earlier later : List PathResult) → AgreeWithContents (contents_below root (Some before)) earlier
-        → AgreeWithContents (contents_below root (Some after)) later → is_read (result_or_unreadable later job.image) ≡ true
+    image_again : (earlier later : List PathResult) → AgreeWithContents (contents_relative_to root (Some before)) earlier
+        → AgreeWithContents (contents_relative_to root (Some after)) later → is_read (result_or_unreadable later job.image) ≡ true
         → did_run (outcome_in earlier (without_expectations job)).ending ≡ true
         → result_or_unreadable later job.image ≡ result_or_unreadable earlier job.image
     image_again earlier later earlier_kept later_kept is_there ended =
@@ -303,8 +303,8 @@ module _ (args : AcceptArgs) (before after : FileContents) (bytes : List ℕ) (j
         no_image holds magic in
         content_of after root later job.image over.file later_kept is_there stays ∙ sym over.was
 
-    finds : (earlier : PlanView) (later : List PathResult) → AgreeWithContents (contents_below root (Some before)) earlier.results
-        → AgreeWithContents (contents_below root (Some after)) later → AreFilesRead later job
+    finds : (earlier : PlanView) (later : List PathResult) → AgreeWithContents (contents_relative_to root (Some before)) earlier.results
+        → AgreeWithContents (contents_relative_to root (Some after)) later → AreFilesRead later job
         → run.row ≡ row_of earlier (without_expectations job) → AreGoldenFilesUpToDate earlier.results later job run.row
     finds earlier later earlier_kept later_kept read_now row_is = record {
       image = λ ended. image_again earlier.results later earlier_kept later_kept read_now.image

@@ -10,7 +10,7 @@ use Rattle.rv_files.specs.Files.{FileContents}
 use Rattle.rvtest_cli.specs.declared.run.RunArgs.{RunArgs}
 use Rattle.rv_command.specs.Texts.{IsTextAt, optional_text}
 use Rattle.rv_files.specs.CommittedFiles.{CommittedFile}
-use Rattle.rv_files.specs.UnreadablePaths.{contents_below}
+use Rattle.rv_files.specs.UnreadablePaths.{contents_relative_to}
 use Rattle.rv_files.specs.declared.recording_store.UnreadablePath.{UnreadablePath}
 use Rattle.rv_rows.specs.Jobs.{console_path}
 use Rattle.rv_rows.specs.Plans.{PlanView, result_or_unreadable}
@@ -81,6 +81,6 @@ pub record IsRowOfRun (store : FileContents) (args : RunArgs) (index : ℕ) (row
   pub indices : List ℕ
   pub plan : PlanView
   pub unread : List UnreadablePath
-  pub planned : IsPlanFor (contents_below (optional_text args.root) (Some store)) jobs indices plan unread
+  pub planned : IsPlanFor (contents_relative_to (optional_text args.root) (Some store)) jobs indices plan unread
   pub files : AreFilesRead plan.results job
   pub row_is : row ≡ row_of plan job

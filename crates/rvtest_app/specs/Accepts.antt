@@ -28,7 +28,7 @@ use Rattle.rv_choice.specs.ChosenJobs.{IsChoice}
 use Rattle.rvtest_cli.specs.declared.accept.AcceptArgs.{AcceptArgs}
 use Rattle.rv_command.specs.Texts.{IsTextAt, optional_text}
 use Rattle.rv_files.specs.CommittedFiles.{CommittedFile, committed_file}
-use Rattle.rv_files.specs.UnreadablePaths.{contents_below, resolved_path}
+use Rattle.rv_files.specs.UnreadablePaths.{contents_relative_to, resolved_path}
 use Rattle.rv_files.specs.declared.recording_store.UnreadablePath.{UnreadablePath}
 use Rattle.rv_rows.specs.Plans.{PlanView}
 use Rattle.rv_rows.specs.JobList.{job_list_of}
@@ -56,7 +56,7 @@ pub record AreRowsOfSelected (contents : Option FileContents) (root : Option (Li
     (rows : List (Option Row)) (note : List ℕ) : Type 0 where
   pub plan : PlanView
   pub unread : List UnreadablePath
-  pub planned : IsPlanFor (contents_below root contents) bare (selected_job_indices selection) plan unread
+  pub planned : IsPlanFor (contents_relative_to root contents) bare (selected_job_indices selection) plan unread
   pub indexed : rows ≡ indexed_rows selection (rows_at plan (selected_job_indices selection))
   pub note_is : note ≡ missing_images_note plan.jobs unread (length (selected_job_indices selection)) root
 

@@ -1,7 +1,7 @@
 -- Why each command stops early.
 use Rattle.std.specs.Prelude.{◌≡◌, ◌⊎◌, ℕ, Bool, true, false, List, [], MatchOption, Option, None, Some, Ok}
 use Rattle.clap.specs.Kinds.{IsAmong}
-use Rattle.clap.specs.declared.error.kind.ErrorKind.{ErrorKind as WordsFault}
+use Rattle.clap.specs.declared.error.kind.ErrorKind.{ErrorKind as ArgsErrorKind}
 use Rattle.rv_files.specs.Files.{FileContents}
 use Rattle.rv_choice.specs.ChoiceStops.{IsChoiceStop}
 use Rattle.rv_choice.specs.UnknownName.{IsUnknownNameStop}
@@ -132,7 +132,7 @@ IsCommandStop contents is_terminal (request.Profile args) stop = (stop ≡ stops
 
 -- the arguments have an error, and do not just request the help or the version
 abbrev pub AreInvalidArgs : List (List ℕ) → Type 0
-AreInvalidArgs args = (kind : WordsFault) × (IsAmong kind (args_error_kinds args) × (IsHelpRequested kind → ⊥))
+AreInvalidArgs args = (kind : ArgsErrorKind) × (IsAmong kind (args_error_kinds args) × (IsHelpRequested kind → ⊥))
 
 -- why the program stopped: options are misused (for example, two exclude each other), or memory ran out
 abbrev pub IsMisuseStop : List (List ℕ) → Stop → Type 0

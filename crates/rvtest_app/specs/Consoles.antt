@@ -6,7 +6,7 @@ use Rattle.rv_command.specs.Texts.{optional_text}
 use Rattle.rv_expect.specs.Judgement.{judge_by_rule}
 use Rattle.rv_expect.specs.Rule.{has_passed}
 use Rattle.rv_expect.specs.declared.rule.Rule.TheVariants.{Strict}
-use Rattle.rv_files.specs.UnreadablePaths.{contents_below}
+use Rattle.rv_files.specs.UnreadablePaths.{contents_relative_to}
 use Rattle.rv_files.specs.declared.recording_store.UnreadablePath.{UnreadablePath}
 use Rattle.rv_job_text.specs.RowReporter.{row_line}
 use Rattle.rv_rows.specs.Plans.{AgreeWithContents, PlanView, jobs_needed_for, paths_of, paths_used}
@@ -38,7 +38,7 @@ pub record IsConsoleAt (contents : Option FileContents) (args : ConsoleArgs) (co
   pub jobs : List Job
   pub index : ℕ
   pub named : IsNamedJobAt contents args.list.now args.name.now jobs index
-  pub of_job : IsJobConsole (contents_below (optional_text args.root) contents) jobs index console line status
+  pub of_job : IsJobConsole (contents_relative_to (optional_text args.root) contents) jobs index console line status
 
 -- the console output of the job was written to standard output, and then its result line to standard error
 pub record IsConsoleWritten (contents : Option FileContents) (args : ConsoleArgs) (status : ℕ) (before after : CommandOutputs)

@@ -12,7 +12,7 @@ use Rattle.rv_command.specs.declared.stop.Stop.{Stop}
 use Rattle.rv_command.specs.declared.stop.Stop.TheVariants as stops
 use Rattle.rv_expect.specs.Judgement.{judge_by_rule}
 use Rattle.rv_expect.specs.declared.rule.Rule.TheVariants.{Strict}
-use Rattle.rv_files.specs.UnreadablePaths.{contents_below, resolved_path}
+use Rattle.rv_files.specs.UnreadablePaths.{contents_relative_to, resolved_path}
 use Rattle.rv_files.specs.declared.recording_store.UnreadablePath.{UnreadablePath}
 use Rattle.rv_gdb.specs.Serving.{IsEnded, IsReadWhileOpen}
 use Rattle.rv_gdb.specs.declared.conversation.SessionError.{SessionError}
@@ -63,13 +63,13 @@ pub record IsSessionOpenedAt (contents : Option FileContents) (args : GdbArgs) (
   pub jobs : List Job
   pub index : ℕ
   pub named : IsNamedJobAt contents args.list.now args.name.now jobs index
-  pub of_job : IsJobOpened (contents_below (optional_text args.root) contents) (optional_text args.root) jobs index end_text session
+  pub of_job : IsJobOpened (contents_relative_to (optional_text args.root) contents) (optional_text args.root) jobs index end_text session
 
 -- `gdb` read bytes from standard input until the session or the input ended, and wrote only the replies of the session to standard output,
 -- which is not a terminal
 pub record IsGdbServed (contents : Option FileContents) (is_terminal : Bool) (args : GdbArgs) (input rest : Option (List ℕ))
     (status : ℕ) (before after : CommandOutputs) : Type 0 where
-  pub is_no_terminal : is_terminal ≡ false
+  pub is_not_terminal : is_terminal ≡ false
   pub end_text : List ℕ
   pub first : Session
   pub opened : IsSessionOpenedAt contents args end_text first
@@ -118,7 +118,7 @@ pub record IsRefusedSessionStop (contents : Option FileContents) (args : GdbArgs
   pub jobs : List Job
   pub index : ℕ
   pub named : IsNamedJobAt contents args.list.now args.name.now jobs index
-  pub refused : IsRefusedJobStop (contents_below (optional_text args.root) contents) jobs index stop
+  pub refused : IsRefusedJobStop (contents_relative_to (optional_text args.root) contents) jobs index stop
 
 -- why a command stopped: the session ended with this error; memory ran out, standard input could not be read, or a write failed
 abbrev pub IsSessionErrorStop : SessionError → Stop → Type 0

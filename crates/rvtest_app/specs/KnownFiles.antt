@@ -30,7 +30,7 @@ IsKnownAt contents (Some path) jobs known = IsSomeAnd known (IsKnownFile content
 abbrev pub known_fault_text : List ℕ → List ℕ → KnownFaultKind → List ℕ
 known_fault_text list_path name kind.InvalidName =
     codes "\"" ++ printable_value name ++ codes "\" is not a job name: expected NAME [# REASON]"
-known_fault_text list_path name kind.Twice = codes "duplicate job name \"" ++ printable_value name ++ codes "\""
+known_fault_text list_path name kind.Duplicate = codes "duplicate job name \"" ++ printable_value name ++ codes "\""
 known_fault_text list_path name kind.UnknownJob =
     codes "no job named \"" ++ printable_value name ++ codes "\" in " ++ printable_text list_path
 

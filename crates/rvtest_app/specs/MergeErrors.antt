@@ -32,7 +32,7 @@ other_run_message parts path difference = two_parts_message path difference (par
 
 -- the message about this flaw of the report at the path, which has this text
 abbrev pub flaw_message : List (Bor (List ℕ)) → List ℕ → List ℕ → Flaw → List ℕ
-flaw_message parts path text (flaw.Line number) = invalid_line_message result_kind.Part path text number
+flaw_message parts path text (flaw.Line number) = invalid_line_message result_kind.Shard path text number
 flaw_message parts path text flaw.Truncated = path_message path (codes "the part is truncated")
 flaw_message parts path text flaw.Whole = path_message path (codes "expected a part of a run, found a whole report")
 flaw_message parts path text flaw.Selection =

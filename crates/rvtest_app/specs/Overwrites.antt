@@ -167,18 +167,18 @@ golden_paths_of_selected root (job ∷ jobs) (selected ∷ selection) =
     (if selected then golden_paths_of_job root job else []) ++ golden_paths_of_selected root jobs selection
 
 -- whether the path is one of the paths `inputs`
-abbrev pub is_read : List (List ℕ) → List ℕ → Bool
-is_read inputs path = list_any (is_among (path ∷ [])) inputs
+abbrev pub is_among_inputs : List (List ℕ) → List ℕ → Bool
+is_among_inputs inputs path = list_any (is_among (path ∷ [])) inputs
 
 -- whether the path of a golden file is one of the paths `inputs`
 abbrev pub is_golden_input : List (List ℕ) → InputPath → Bool
-is_golden_input inputs golden = is_read inputs (path_buf_bytes golden.path)
+is_golden_input inputs golden = is_among_inputs inputs (path_buf_bytes golden.path)
 
 -- `accept` overwrites no input: the list is not another input, and no golden file of a selected job is the list or another input
 pub record AreAcceptFilesNotInputs (args : AcceptArgs) (jobs : List Job) (selection : List Bool) : Type 0 where
-  pub list_is_no_input : IsNotAnInput (inputs_of_accept args jobs) args.run.list.now
-  pub golden_is_not_list : list_any (is_read (args.run.list.now ∷ [])) (golden_paths_of_selected (optional_text args.run.root) jobs selection) ≡ false
-  pub golden_is_no_input : list_any (is_read (inputs_of_accept args jobs)) (golden_paths_of_selected (optional_text args.run.root) jobs selection) ≡ false
+  pub list_is_not_input : IsNotAnInput (inputs_of_accept args jobs) args.run.list.now
+  pub golden_is_not_list : list_any (is_among_inputs (args.run.list.now ∷ [])) (golden_paths_of_selected (optional_text args.run.root) jobs selection) ≡ false
+  pub golden_is_not_input : list_any (is_among_inputs (inputs_of_accept args jobs)) (golden_paths_of_selected (optional_text args.run.root) jobs selection) ≡ false
 
 -- the beginning of a message about a golden file outside of the directory: `head`, such as "rvtest: warning: ", and `role`, which says
 -- which job names the file

@@ -4,7 +4,7 @@ use Rattle.std.specs.Io.KnownBytes.{Appends}
 use Rattle.std.specs.declared.alloc.Global.{Global}
 use Rattle.std.specs.declared.io.ErrorKind.{ErrorKind}
 use Rattle.std.specs.declared.io.ErrorKind.TheVariants as error_kind
-use Rattle.clap.specs.declared.error.kind.ErrorKind.{ErrorKind as WordsFault}
+use Rattle.clap.specs.declared.error.kind.ErrorKind.{ErrorKind as ArgsErrorKind}
 use Rattle.clap.specs.declared.error.kind.ErrorKind.TheVariants as args_error
 use Rattle.rv_files.specs.Counts.{one_more}
 use Rattle.rvtest_cli.specs.declared.diff.DiffArgs.{DiffArgs}
@@ -39,7 +39,7 @@ unreadable_args_message _ = codes "rvtest: an argument is not valid UTF-8\n"
 -- ---- help
 
 -- the error of `clap` requests the help or the version
-abbrev pub IsHelpRequested : WordsFault → Type 0
+abbrev pub IsHelpRequested : ArgsErrorKind → Type 0
 IsHelpRequested fault = (fault ≡ args_error.DisplayHelp) ⊎ (fault ≡ args_error.DisplayVersion)
 
 -- why a command stopped: memory ran out, or the help could not be written, which counts as one more failed write

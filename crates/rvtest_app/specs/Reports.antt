@@ -14,7 +14,7 @@ use Rattle.rv_diff.specs.declared.change.CompareMode.TheVariants.{Outcomes, Slow
 use Rattle.rv_expect.specs.Judgement.{judge_by_rule}
 use Rattle.rv_expect.specs.Rule.{has_passed}
 use Rattle.rv_expect.specs.declared.rule.Rule.TheVariants.{Strict}
-use Rattle.rv_files.specs.UnreadablePaths.{contents_below}
+use Rattle.rv_files.specs.UnreadablePaths.{contents_relative_to}
 use Rattle.rv_files.specs.declared.recording_store.UnreadablePath.{UnreadablePath}
 use Rattle.rv_job_text.specs.declared_budget_use.BudgetUse.{BudgetUse}
 use Rattle.rv_job_text.specs.BudgetUseLine.{IsBudgetUseOfRow}
@@ -127,7 +127,7 @@ IsCheckOutputOf contents root (error ∷ errors) path bytes output status =
 pub record IsCheckOutputAt (contents : Option FileContents) (args : CheckArgs) (output : List ℕ) (status : ℕ) : Type 0 where
   pub bytes : List ℕ
   pub read : IsTextAt contents args.list.now bytes
-  pub check : IsCheckOutputOf (contents_below (optional_text args.root) contents) (optional_text args.root) (list_faults bytes)
+  pub check : IsCheckOutputOf (contents_relative_to (optional_text args.root) contents) (optional_text args.root) (list_faults bytes)
       args.list.now bytes output status
 
 -- ---- explain
@@ -172,5 +172,5 @@ pub record IsExplanationAt (contents : Option FileContents) (args : ExplainArgs)
   pub jobs : List Job
   pub index : ℕ
   pub named : IsNamedJobAt contents args.list.now args.name.now jobs index
-  pub explained : IsJobExplained (contents_below (optional_text args.root) contents) (with_budget args.budget jobs) index
+  pub explained : IsJobExplained (contents_relative_to (optional_text args.root) contents) (with_budget args.budget jobs) index
       args.last output status

@@ -6,7 +6,7 @@ use Rattle.rv_choice.specs.Shard.{IsShardOf, stamp_for}
 use Rattle.rvtest_cli.specs.declared.run.RunArgs.{RunArgs}
 use Rattle.rv_command.specs.Texts.{IsTextAt, optional_text}
 use Rattle.rv_files.specs.CommittedFiles.{CommittedFile}
-use Rattle.rv_files.specs.UnreadablePaths.{contents_below}
+use Rattle.rv_files.specs.UnreadablePaths.{contents_relative_to}
 use Rattle.rv_files.specs.declared.recording_store.UnreadablePath.{UnreadablePath}
 use Rattle.rv_job_text.specs.RowReporter.{RowReporter, row_lines_at}
 use Rattle.rv_job_text.specs.declared.verbosity.Verbosity.TheVariants.{Failures}
@@ -160,7 +160,7 @@ pub record IsRunOfJobs (contents : Option FileContents) (args : RunArgs) (failur
     (shard : Option Shard) (old_rows : Option (List Row)) (status : ℕ) (before after : CommandOutputs) : Type 0 where
   pub plan : PlanView
   pub unread : List UnreadablePath
-  pub planned : IsPlanFor (contents_below (optional_text args.root) contents) (with_budget args.budget jobs) indices plan
+  pub planned : IsPlanFor (contents_relative_to (optional_text args.root) contents) (with_budget args.budget jobs) indices plan
       unread
   pub rows : List Row
   pub rows_are : rows ≡ run_rows args.stop_after (run_judging args failures) plan indices
@@ -206,7 +206,7 @@ pub record IsRunPartlyCommitted (contents : Option FileContents) (args : RunArgs
     (shard : Option Shard) (old_rows : Option (List Row)) (before after : Option (List CommittedFile)) : Type 0 where
   pub plan : PlanView
   pub unread : List UnreadablePath
-  pub planned : IsPlanFor (contents_below (optional_text args.root) contents) (with_budget args.budget jobs) indices plan
+  pub planned : IsPlanFor (contents_relative_to (optional_text args.root) contents) (with_budget args.budget jobs) indices plan
       unread
   pub rows : List Row
   pub rows_are : rows ≡ run_rows args.stop_after (run_judging args failures) plan indices

@@ -11,11 +11,11 @@ use Rattle.rv_count_tables.specs.declared.table.CountTable.{CountTable}
 use Rattle.rv_profile.specs.ImageCounts.{other_image}
 use Rattle.rv_profile.specs.JobImages.{ImageFileView, images_of}
 use Rattle.rv_stacks.specs.JobTables.{jobs_at}
-use Rattle.rv_files.specs.UnreadablePaths.{contents_below}
+use Rattle.rv_files.specs.UnreadablePaths.{contents_relative_to}
 use Rattle.rv_files.specs.declared.recording_store.UnreadablePath.{UnreadablePath}
 use Rattle.rv_rows.specs.Plans.{PlanView}
 use Rattle.rv_rows.specs.declared_job.Job.{Job}
-use Rattle.rv_profile.specs.ImageStacks.{image_past_64_bits}
+use Rattle.rv_profile.specs.ImageStacks.{overflowing_image}
 use Rattle.rv_rows.specs.declared_row.Row.{Row}
 use Rattle.rv_rows.specs.declared_saved.Shard.{Shard}
 use Rattle.rv_stacks.specs.StackErrors.{IsCountError}
@@ -89,20 +89,20 @@ abbrev pub counts_source : RunArgs → List ℕ
 counts_source args = unwrap_or (optional_text args.counts) args.list.now
 
 -- the message for an image whose sum over the call stacks does not fit in 64 bits
-abbrev pub past_64_bits_message : List ℕ → List ℕ → List ℕ
-past_64_bits_message source path = codes "rvtest: " ++ printable_text source ++ codes ": " ++ printable_text path
+abbrev pub image_overflow_message : List ℕ → List ℕ → List ℕ
+image_overflow_message source path = codes "rvtest: " ++ printable_text source ++ codes ": " ++ printable_text path
     ++ codes ": the sum of its stack counts does not fit in 64 bits\n"
 
 -- why a command stopped: the call stacks of an image have 2^64 or more steps or calls, or memory ran out
-abbrev pub IsPast64BitsStop : CountTable → List ImageFileView → List ℕ → Stop → Type 0
-IsPast64BitsStop table images source stop = (path : List ℕ)
-    × ((image_past_64_bits table images ≡ Some path) × IsStop 2 (past_64_bits_message source path) stop)
+abbrev pub IsImageOverflowStop : CountTable → List ImageFileView → List ℕ → Stop → Type 0
+IsImageOverflowStop table images source stop = (path : List ℕ)
+    × ((overflowing_image table images ≡ Some path) × IsStop 2 (image_overflow_message source path) stop)
 
 -- why a command stopped: the view of this table could not be written because memory ran out or, for a profile, because an image's call
 -- stacks have 2^64 or more steps or calls
 abbrev pub IsTableTextStop : View → CountTable → List ImageFileView → List ℕ → Stop → Type 0
 IsTableTextStop (view.Cover csv) table images source stop = stop ≡ stops.OutOfMemory
-IsTableTextStop (view.Profile format) table images source stop = (stop ≡ stops.OutOfMemory) ⊎ IsPast64BitsStop table images source stop
+IsTableTextStop (view.Profile format) table images source stop = (stop ≡ stops.OutOfMemory) ⊎ IsImageOverflowStop table images source stop
 
 -- why a command stopped: there is a table for the jobs at these indices, but its view could not be written because memory ran out or, for a
 -- profile, because a sum does not fit in 64 bits
@@ -124,7 +124,7 @@ pub record IsNoViewOfJobsStop (contents : Option FileContents) (args : RunArgs) 
     (stop : Stop) : Type 0 where
   pub plan : PlanView
   pub unread : List UnreadablePath
-  pub planned : IsPlanFor (contents_below (optional_text args.root) contents) jobs indices plan unread
+  pub planned : IsPlanFor (contents_relative_to (optional_text args.root) contents) jobs indices plan unread
   pub not_made : IsViewNotMadeStop contents args requested_view plan indices stop
 
 -- why a command stopped: memory ran out, standard output could not be written, or the view of the jobs at these indices could not be made

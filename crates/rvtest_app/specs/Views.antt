@@ -8,7 +8,7 @@ use Rattle.rv_profile.specs.ImageCounts.{other_image}
 use Rattle.rv_profile.specs.ImagesText.{IsCoverText}
 use Rattle.rv_profile.specs.JobImages.{ImageFileView, images_of}
 use Rattle.rv_stacks.specs.JobTables.{IsTableOfJobsAt, jobs_at}
-use Rattle.rv_files.specs.UnreadablePaths.{contents_below}
+use Rattle.rv_files.specs.UnreadablePaths.{contents_relative_to}
 use Rattle.rv_files.specs.declared.recording_store.UnreadablePath.{UnreadablePath}
 use Rattle.rv_rows.specs.Plans.{PlanView}
 use Rattle.rv_rows.specs.declared_job.Job.{Job}
@@ -69,7 +69,7 @@ pub record IsViewOfJobsWritten (contents : Option FileContents) (args : RunArgs)
     (before after : CommandOutputs) : Type 0 where
   pub plan : PlanView
   pub unread : List UnreadablePath
-  pub planned : IsPlanFor (contents_below (optional_text args.root) contents) jobs indices plan unread
+  pub planned : IsPlanFor (contents_relative_to (optional_text args.root) contents) jobs indices plan unread
   pub between : CommandOutputs
   pub reported : IsOnlyErrorOutput (refused_note args plan unread indices) before between
   pub text : List ℕ

@@ -23,7 +23,7 @@ ghost use Rattle.rvtest_app.specs.Commands.{failure_rule};
 ghost use Rattle.rvtest_app.specs.Overwrites.{AreAcceptFilesNotInputs, AreAcceptInputsPreserved, IsAcceptOverwriteStop};
 ghost use Rattle.rvtest_app.specs.CommandOutputs.{outputs_of};
 
-use crate::accept_inputs::reject_accept_overwrites;
+use crate::accept_inputs::check_accept_outputs;
 use crate::accepted_files::{
     check_files_are_unchanged, check_written_files, read_golden_files, write_accepted_files,
 };
@@ -167,8 +167,8 @@ fn checked_jobs<R, D, F: Outputs + Drop, O: Sink + Drop, E: Sink + Drop>(
 {
     let selected = selected_jobs(host.alloc, list, chosen)?;
     let (jobs, selection) = (list.jobs.as_slice(), selected.selection.as_slice());
-    let outside = reject_accept_overwrites(&destinations.files, host.alloc, args, jobs, selection)?;
-    write_message(&mut destinations.errors, outside.as_slice());
+    let warnings = check_accept_outputs(&destinations.files, host.alloc, args, jobs, selection)?;
+    write_message(&mut destinations.errors, warnings.as_slice());
     Ok(selected)
 }
 

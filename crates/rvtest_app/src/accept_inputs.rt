@@ -34,7 +34,7 @@ struct AcceptReads<'a> {
 /// Returns an error if writing the list or a golden file of a selected job would overwrite an input, or if a golden file is outside of the
 /// directory and `--outside` is not given. Otherwise returns the warnings about golden files outside of the directory, which are allowed
 /// with `--outside`.
-pub(crate) fn reject_accept_overwrites<F: Outputs>(
+pub(crate) fn check_accept_outputs<F: Outputs>(
     files: &F,
     alloc: Global,
     args: &AcceptArgs<'_>,
@@ -51,7 +51,7 @@ pub(crate) fn reject_accept_overwrites<F: Outputs>(
     push_golden_of_selected(alloc, &mut golden, root, jobs, selection)?;
     reject_golden_overwrites(files, alloc, golden.as_slice(), &reads)?;
     reject_list_overwrite(files, alloc, args.run.list, &reads)?;
-    outside_notes(files, alloc, args, golden.as_slice())
+    outside_warnings(files, alloc, args, golden.as_slice())
 }
 
 // Returns the inputs of `accept`, with the identity of each file.
@@ -135,7 +135,7 @@ fn reject_list_overwrite<F: Outputs>(
     list_path: &str,
     reads: &AcceptReads<'_>,
 ) -> Result<(), Stop>
-    ensures is_no_input { (paths : List (List ℕ)) → HaveIdentities (F.committed files.now) paths reads.now.inputs
+    ensures is_not_input { (paths : List (List ℕ)) → HaveIdentities (F.committed files.now) paths reads.now.inputs
         → OnOk result (IfSome (F.committed files.now) (λ _. IsNotAnInput paths list_path.now)) }
     ensures stopped { IfErr result (IsOverwriteStop (codes "the updated list") list_path.now) }
 {
@@ -263,7 +263,7 @@ struct Bounds<'a> {
 
 // Returns the warnings about golden files outside of the `--root` directory; without `--root`, outside of the directory that contains the
 // list. Returns an error if there are such files and writing outside is not allowed.
-fn outside_notes<F: Outputs>(
+fn outside_warnings<F: Outputs>(
     files: &F,
     alloc: Global,
     args: &AcceptArgs<'_>,
@@ -280,7 +280,7 @@ fn outside_notes<F: Outputs>(
         is_outside_allowed: args.outside,
     };
     let mut notes = Vec::new(alloc);
-    push_outside_notes(files, alloc, bounds, golden, &mut notes)?;
+    push_outside_warnings(files, alloc, bounds, golden, &mut notes)?;
     Ok(notes)
 }
 
@@ -293,7 +293,7 @@ fn directory_of(path: &str) -> &str {
 }
 
 // Appends a warning for each golden file outside of the directory; returns an error if writing outside is not allowed.
-fn push_outside_notes<F: Outputs>(
+fn push_outside_warnings<F: Outputs>(
     files: &F,
     alloc: Global,
     bounds: Bounds<'_>,
@@ -306,7 +306,7 @@ fn push_outside_notes<F: Outputs>(
     match golden {
         [file, rest @ ..] => {
             check_inside_directory(files, alloc, bounds, file, notes)?;
-            push_outside_notes(files, alloc, bounds, rest, notes)
+            push_outside_warnings(files, alloc, bounds, rest, notes)
         }
         [] => Ok(()),
     }

@@ -4,7 +4,7 @@ ghost use Rattle.std.specs.Prelude.{◌≡◌, ◌≤◌, IfErr, IfOk};
 ghost use Rattle.rv_rows.specs.ListFaults.{list_faults};
 ghost use Rattle.rvtest_app.specs.CheckText.{check_text, job_begin_lines};
 ghost use Rattle.rvtest_app.specs.Commands.{check_status, refused_job_count};
-ghost use Rattle.rv_files.specs.UnreadablePaths.{contents_below};
+ghost use Rattle.rv_files.specs.UnreadablePaths.{contents_relative_to};
 ghost use Rattle.rvtest_app.specs.Reports.{IsCheckOutputAt, IsCheckOutputOf, IsPlanCheckOf};
 ghost use Rattle.rv_command.specs.Stops.{IsListFaultStop};
 ghost use Rattle.rv_command.specs.Texts.{optional_text};
@@ -44,7 +44,7 @@ fn check_list_text<D: Inputs>(
     text: &[u8],
 ) -> Result<CommandResult, Stop>
     ensures check { IfOk result (λ output. IsCheckOutputOf
-        (contents_below (optional_text args.entry.root) (D.contents inputs.now))
+        (contents_relative_to (optional_text args.entry.root) (D.contents inputs.now))
         (optional_text args.entry.root) (list_faults text.now)
         args.entry.list.now text.now output.text.items output.status) }
     ensures status_bound { IfOk result (λ output. output.status ≤ 2) }
@@ -69,7 +69,7 @@ fn check_files<D: Inputs>(
     text: &[u8],
 ) -> Result<CommandResult, Stop>
     ensures plan { IfOk result (λ output. IsPlanCheckOf
-        (contents_below (optional_text args.entry.root) (D.contents inputs.now))
+        (contents_relative_to (optional_text args.entry.root) (D.contents inputs.now))
         (optional_text args.entry.root) args.entry.list.now text.now output.text.items output.status) }
     ensures status_bound { IfOk result (λ output. output.status ≤ 2) }
     ensures stopped { IfErr result (IsListFaultStop args.entry.list.now text.now) }

@@ -30,7 +30,7 @@ struct SyncedFiles<'a, P: Drop, S: Drop> {
 pub(crate) fn commit_outlets<F: Outputs>(
     files: &mut F,
     alloc: Global,
-    outlets: Outlets<'_, F::Place, F::File>,
+    outlets: Outlets<'_, F::Pending, F::File>,
 ) -> Result<(), Stop>
     requires report { has_no_failure F.File.failure_count outlets.report }
     requires junit { has_no_failure F.File.failure_count outlets.junit }
@@ -50,8 +50,8 @@ pub(crate) fn commit_outlets<F: Outputs>(
 fn sync_outlets<'a, F: Outputs>(
     files: &mut F,
     alloc: Global,
-    outlets: Outlets<'a, F::Place, F::File>,
-) -> Result<SyncedFiles<'a, F::Place, F::Synced>, Stop>
+    outlets: Outlets<'a, F::Pending, F::File>,
+) -> Result<SyncedFiles<'a, F::Pending, F::Synced>, Stop>
     requires report { has_no_failure F.File.failure_count outlets.report }
     requires junit { has_no_failure F.File.failure_count outlets.junit }
     ensures nothing_committed { F.committed files.new ≡ F.committed files.old }
@@ -85,8 +85,8 @@ fn sync_outlets<'a, F: Outputs>(
 fn sync_outlet<'a, F: Outputs>(
     files: &mut F,
     alloc: Global,
-    outlet: Outlet<'a, F::Place, F::File>,
-) -> Result<Option<SyncedFile<'a, F::Place, F::Synced>>, Stop>
+    outlet: Outlet<'a, F::Pending, F::File>,
+) -> Result<Option<SyncedFile<'a, F::Pending, F::Synced>>, Stop>
     requires { has_no_failure F.File.failure_count outlet }
     ensures nothing_committed { F.committed files.new ≡ F.committed files.old }
     ensures synced { IfOk result (λ synced. synced_files F.pending_path F.synced_bytes synced
@@ -116,7 +116,7 @@ fn sync_outlet<'a, F: Outputs>(
 }
 
 // Abandons a synced file, if there is one, so that it does not appear at its path.
-fn abandon_synced<F: Outputs>(files: &mut F, synced: Option<SyncedFile<'_, F::Place, F::Synced>>)
+fn abandon_synced<F: Outputs>(files: &mut F, synced: Option<SyncedFile<'_, F::Pending, F::Synced>>)
     ensures { F.committed files.new ≡ F.committed files.old }
 {
     if let Some(synced) = synced {
@@ -128,8 +128,8 @@ fn abandon_synced<F: Outputs>(files: &mut F, synced: Option<SyncedFile<'_, F::Pl
 fn commit_both<F: Outputs>(
     files: &mut F,
     alloc: Global,
-    first: Option<SyncedFile<'_, F::Place, F::Synced>>,
-    second: Option<SyncedFile<'_, F::Place, F::Synced>>,
+    first: Option<SyncedFile<'_, F::Pending, F::Synced>>,
+    second: Option<SyncedFile<'_, F::Pending, F::Synced>>,
 ) -> Result<(), Stop>
     ensures committed { OnOk result (AreFilesCommitted (F.committed files.old) (F.committed files.new)
         (joined_files (synced_files F.pending_path F.synced_bytes first.entry)
@@ -152,7 +152,7 @@ fn commit_both<F: Outputs>(
 fn commit_synced<F: Outputs>(
     files: &mut F,
     alloc: Global,
-    synced: Option<SyncedFile<'_, F::Place, F::Synced>>,
+    synced: Option<SyncedFile<'_, F::Pending, F::Synced>>,
 ) -> Result<(), Stop>
     ensures committed { OnOk result (AreFilesCommitted (F.committed files.old) (F.committed files.new)
         (synced_files F.pending_path F.synced_bytes synced.entry)) }
@@ -167,7 +167,7 @@ fn commit_synced<F: Outputs>(
         destination,
         file,
     } = synced;
-    match files.place(destination, file) {
+    match files.commit(destination, file) {
         Ok(()) => Ok(()),
         Err(error) => Err(file_error_stop(alloc, path, error)),
     }

@@ -6,7 +6,7 @@ ghost use Rattle.rv_rows.specs.declared_job.Job.{Job as AJob};
 ghost use Rattle.rv_command.specs.Texts.{optional_text};
 ghost use Rattle.rv_expect.specs.Rule.{has_passed};
 ghost use Rattle.rv_expect.specs.declared.rule.Rule.TheVariants.{Strict};
-ghost use Rattle.rv_files.specs.UnreadablePaths.{contents_below};
+ghost use Rattle.rv_files.specs.UnreadablePaths.{contents_relative_to};
 ghost use Rattle.rv_job_text.specs.RowReporter.{row_line};
 ghost use Rattle.rv_rows.specs.Rows.{row_of};
 ghost use Rattle.rvtest_app.specs.CommandStops.{IsConsoleStop};
@@ -78,7 +78,7 @@ fn run_job_at<D: Inputs>(
 ) -> Result<ReportedRow, Stop>
     requires { index < length jobs }
     ensures reported { IfOk result (λ reported.
-        IsJobConsole (contents_below (optional_text args.entry.root) (D.contents inputs.now))
+        IsJobConsole (contents_relative_to (optional_text args.entry.root) (D.contents inputs.now))
         jobs index reported.row.console reported.line.items reported.status) }
     ensures status_bound { IfOk result (λ reported. reported.status ≤ 1) }
     ensures memory { IfErr result (λ stop. stop ≡ Stop.OutOfMemory) }

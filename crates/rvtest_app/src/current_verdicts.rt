@@ -120,7 +120,7 @@ impl<'x, D: Inputs> CurrentFiles<'x, D> {
     fn row_at(&self, index: usize) -> Option<&Row>
         ensures { option_map (λ row. row.now) result ≡ row_or_none (slice_get self.now.rows.now index) }
     {
-        row_if_run(self.rows.get(index))
+        row_or_none(self.rows.get(index))
     }
 
     // Returns the contents of the golden file at a path; `None` if no path is given, or if the file cannot be read or is larger than 16
@@ -211,7 +211,7 @@ fn slice_of_text(bytes: &Option<Vec<u8>>) -> Option<&[u8]>
 }
 
 // Returns the row in an entry of the list of rows; `None` if there is no entry or it has no row.
-fn row_if_run(row: Option<&Option<Row>>) -> Option<&Row>
+fn row_or_none(row: Option<&Option<Row>>) -> Option<&Row>
     ensures { option_map (λ row. row.now) result ≡ row_or_none (option_map (λ row. row.now) row.entry) }
 {
     match row {

@@ -7,7 +7,7 @@ ghost use Rattle.rv_expect.specs.declared.rule.Rule.TheVariants.{Strict};
 ghost use Rattle.rv_expect.specs.Rule.{has_passed};
 ghost use Rattle.rv_rows.specs.Rows.{row_of};
 ghost use Rattle.rvtest_app.specs.Commands.{passing_status};
-ghost use Rattle.rv_files.specs.UnreadablePaths.{contents_below};
+ghost use Rattle.rv_files.specs.UnreadablePaths.{contents_relative_to};
 ghost use Rattle.rvtest_app.specs.Reports.{IsExplanationAt, IsJobExplained, IsTextExplaining};
 ghost use Rattle.rv_command.specs.Texts.{optional_text};
 ghost use Rattle.rvtest_app.specs.CommandStops.{IsExplainStop};
@@ -49,7 +49,7 @@ fn explain_job_at<D: Inputs>(
 ) -> Result<CommandResult, Stop>
     requires { index < length jobs }
     ensures explained { IfOk result (λ output.
-        IsJobExplained (contents_below (optional_text args.entry.root) (D.contents inputs.now))
+        IsJobExplained (contents_relative_to (optional_text args.entry.root) (D.contents inputs.now))
         (with_budget args.entry.budget jobs) index args.entry.last output.text.items output.status) }
     ensures status_bound { IfOk result (λ output. output.status ≤ 1) }
     ensures memory { IfErr result (λ stop. stop ≡ Stop.OutOfMemory) }

@@ -7,7 +7,7 @@ ghost use Rattle.rv_command.specs.Stops.{IsStop};
 ghost use Rattle.rv_command.specs.Texts.{optional_text};
 ghost use Rattle.rv_expect.specs.Judgement.{judge_by_rule};
 ghost use Rattle.rv_expect.specs.declared.rule.Rule.TheVariants.{Strict};
-ghost use Rattle.rv_files.specs.UnreadablePaths.{contents_below, resolved_path};
+ghost use Rattle.rv_files.specs.UnreadablePaths.{contents_relative_to, resolved_path};
 ghost use Rattle.rv_gdb.specs.JobSessions.{IsSessionOf};
 ghost use Rattle.rv_job_text.specs.RowReporter.{row_line};
 ghost use Rattle.rv_rows.proofs.Public.{state_code};
@@ -44,7 +44,7 @@ struct JobSession {
 /// Debugs the run of the job with the requested name. Reads gdb's packets from `input` and writes the replies to standard output, until gdb
 /// ends the session or its input ends. A command of gdb that runs the job is interrupted only by Ctrl-C or the end of the input. The status
 /// is 0. It is an error if standard output is a terminal.
-pub(crate) fn show_job_to_gdb<
+pub(crate) fn debug_named_job<
     R: Threads,
     D: Inputs,
     I: Read + Send,
@@ -138,9 +138,9 @@ fn session_of_job<D: Inputs>(
 ) -> Result<JobSession, Stop>
     requires { named.index < length named.jobs }
     ensures opened { IfOk result (λ opened. IsJobOpened
-        (contents_below (optional_text args.entry.root) (D.contents inputs.now)) (optional_text args.entry.root) named.jobs
+        (contents_relative_to (optional_text args.entry.root) (D.contents inputs.now)) (optional_text args.entry.root) named.jobs
         named.index (job_end_text opened.job.plan opened.job.unread.items opened.job.index) opened.session) }
-    ensures stopped { IfErr result (IsUnopenedJobStop (contents_below (optional_text args.entry.root) (D.contents inputs.now))
+    ensures stopped { IfErr result (IsUnopenedJobStop (contents_relative_to (optional_text args.entry.root) (D.contents inputs.now))
         named.jobs named.index) }
 {
     let NamedJob { jobs, index } = named;

@@ -108,7 +108,7 @@ fn push_known_fault<'a>(
                 Span::Text("\" is not a job name: expected NAME [# REASON]"),
             ],
         ),
-        KnownFaultKind::Twice => push_spans(
+        KnownFaultKind::Duplicate => push_spans(
             message,
             &[
                 Span::Text("duplicate job name \""),

@@ -296,7 +296,7 @@ fn part_flaw_message(
 {
     let Part { path, text } = part;
     match flaw {
-        Flaw::Line(line) => invalid_line_message(alloc, ResultKind::Part, path, text, line),
+        Flaw::Line(line) => invalid_line_message(alloc, ResultKind::Shard, path, text, line),
         Flaw::Truncated => path_message(alloc, path, "the part is truncated"),
         Flaw::Whole => path_message(
             alloc,

@@ -28,7 +28,7 @@ pub(crate) fn missing_images_note(
     let mut note = Vec::new(alloc);
     if count == plan.jobs() && are_images_missing(plan, unread) {
         push_text(&mut note, "rvtest: note: ")?;
-        push_paths_line(&mut note, root)?;
+        push_no_image_line(&mut note, root)?;
     }
     Ok(note)
 }
@@ -44,13 +44,13 @@ pub(crate) fn push_missing_images_line(
         ≡ text.old.items ++ missing_images_line plan.now.jobs unread.now (optional_text root.entry)) }
 {
     if are_images_missing(plan, unread) {
-        push_paths_line(text, root)?;
+        push_no_image_line(text, root)?;
     }
     Ok(())
 }
 
 // Appends a line that no image was found, with the directory against which relative paths are resolved.
-fn push_paths_line(text: &mut Vec<u8>, root: Option<&str>) -> Result<(), AllocError>
+fn push_no_image_line(text: &mut Vec<u8>, root: Option<&str>) -> Result<(), AllocError>
     ensures { OnOk result (text.new.items ≡ text.old.items ++ line (no_image_found_text (optional_text root.entry))) }
 {
     match root {

@@ -53,7 +53,7 @@ pub(crate) fn open_outlets<'a, F: Outputs>(
     alloc: Global,
     report: Option<&'a str>,
     junit: Option<&'a str>,
-) -> Result<Outlets<'a, F::Place, F::File>, Stop>
+) -> Result<Outlets<'a, F::Pending, F::File>, Stop>
     ensures nothing_committed { F.committed files.new ≡ F.committed files.old }
     ensures report { IfOk result (λ outlets. HasReceived F.pending_path F.File.accepted F.File.failure_count
         (F.committed files.old) (optional_text report.entry) [] outlets.report) }
@@ -79,7 +79,7 @@ pub(crate) fn open_outlet<'a, F: Outputs>(
     files: &mut F,
     alloc: Global,
     path: Option<&'a str>,
-) -> Result<Outlet<'a, F::Place, F::File>, Stop>
+) -> Result<Outlet<'a, F::Pending, F::File>, Stop>
     ensures nothing_committed { F.committed files.new ≡ F.committed files.old }
     ensures open { IfOk result (HasReceived F.pending_path F.File.accepted F.File.failure_count
         (F.committed files.old) (optional_text path.entry) []) }
@@ -115,7 +115,7 @@ fn open_file<'a, F: Outputs>(
     files: &mut F,
     alloc: Global,
     path: &'a str,
-) -> Result<Outlet<'a, F::Place, F::File>, Stop>
+) -> Result<Outlet<'a, F::Pending, F::File>, Stop>
     requires { is_stdout path.now ≡ false }
     ensures nothing_committed { F.committed files.new ≡ F.committed files.old }
     ensures open { IfOk result (HasReceived F.pending_path F.File.accepted F.File.failure_count
@@ -309,7 +309,7 @@ pub(crate) fn unwritten_stop(alloc: Global, path: &str, reason: ErrorKind) -> St
 }
 
 /// Abandons the files of both outlets, so that neither appears at its path.
-pub(crate) fn abandon_outlets<F: Outputs>(files: &mut F, outlets: Outlets<'_, F::Place, F::File>)
+pub(crate) fn abandon_outlets<F: Outputs>(files: &mut F, outlets: Outlets<'_, F::Pending, F::File>)
     ensures { F.committed files.new ≡ F.committed files.old }
 {
     let Outlets { report, junit } = outlets;
@@ -318,7 +318,7 @@ pub(crate) fn abandon_outlets<F: Outputs>(files: &mut F, outlets: Outlets<'_, F:
 }
 
 /// Abandons the file of an outlet, if it has one, so that it does not appear at its path.
-pub(crate) fn abandon_outlet<F: Outputs>(files: &mut F, outlet: Outlet<'_, F::Place, F::File>)
+pub(crate) fn abandon_outlet<F: Outputs>(files: &mut F, outlet: Outlet<'_, F::Pending, F::File>)
     ensures { F.committed files.new ≡ F.committed files.old }
 {
     if let Outlet::File(file) = outlet {

@@ -43,7 +43,7 @@ pub(crate) fn write_shown<F: Outputs + Drop, O: Sink + Drop, E: Sink + Drop>(
 pub(crate) fn put_files<F: Outputs + Drop, O: Sink + Drop, E: Sink + Drop, T: RowReporter>(
     alloc: Global,
     destinations: &mut Destinations<F, O, E>,
-    outlets: Outlets<'_, F::Place, F::File>,
+    outlets: Outlets<'_, F::Pending, F::File>,
     texts: FileTexts<'_, '_, '_, T>,
 ) -> Result<(), Stop>
     requires known { AreLinesOf (T.line texts.reporter.now) texts.indices.now (report_rows texts.report) texts.texts.now }

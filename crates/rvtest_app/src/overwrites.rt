@@ -51,7 +51,7 @@ pub(crate) fn reject_option_overwrite<F: Outputs>(
     path: Option<&str>,
     inputs: &InputFiles<'_>,
 ) -> Result<(), Stop>
-    ensures is_no_input { (paths : List (List ℕ)) → HaveIdentities (F.committed files.now) paths inputs.now
+    ensures is_not_input { (paths : List (List ℕ)) → HaveIdentities (F.committed files.now) paths inputs.now
         → OnOk result (IfSome (F.committed files.now) (λ _. IsNotAnInputIfFile paths (optional_text path.entry))) }
     ensures stopped { IfErr result (IsOptionOverwriteStop option.now (optional_text path.entry)) }
 {
@@ -69,7 +69,7 @@ pub(crate) fn reject_file_overwrite<F: Outputs>(
     path: &str,
     inputs: &InputFiles<'_>,
 ) -> Result<(), Stop>
-    ensures is_no_input { (paths : List (List ℕ)) → HaveIdentities (F.committed files.now) paths inputs.now
+    ensures is_not_input { (paths : List (List ℕ)) → HaveIdentities (F.committed files.now) paths inputs.now
         → OnOk result (IfSome (F.committed files.now) (λ _. IsNotAnInput paths path.now)) }
     ensures stopped { IfErr result (IsOverwriteStop option.now path.now) }
 {

@@ -1,7 +1,7 @@
 //! What gdb shows of a job at the end of its run.
 
 ghost use Rattle.std.specs.Prelude.{◌≡◌, ◌<◌, IfOk, is_ok, length, slice_index_or, true};
-ghost use Rattle.rv_gdb.specs.Places.{IsReached};
+ghost use Rattle.rv_gdb.specs.RunSteps.{IsReached};
 ghost use Rattle.rv_rows.specs.declared_job.Job.{Job as AJob};
 ghost use Rattle.rv_rows.specs.Machine.{state_of};
 ghost use Rattle.rv_rows.specs.Rows.{row_of, start_state_in};

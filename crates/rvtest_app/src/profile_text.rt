@@ -4,12 +4,12 @@ ghost use Rattle.std.specs.Prelude.{◌≡◌, ◌⊎◌, IfErr, IfOk};
 ghost use Rattle.rv_count_tables.specs.Table.{IsValidTable};
 ghost use Rattle.rv_profile.specs.JobImages.{images_of_files};
 ghost use Rattle.rv_profile.specs.ProfileText.{IsProfileText};
-ghost use Rattle.rvtest_app.specs.ViewStops.{IsPast64BitsStop, past_64_bits_message};
+ghost use Rattle.rvtest_app.specs.ViewStops.{IsImageOverflowStop, image_overflow_message};
 
 use rv_command::Stop;
 use rv_count_tables::CountTable;
 use rv_job_text::{Span, text_of_spans};
-use rv_profile::{ImageFile, ProfileFormat, image_past_64_bits, profile_text};
+use rv_profile::{ImageFile, ProfileFormat, overflowing_image, profile_text};
 use std::alloc::{AllocError, Global};
 
 /// Returns the profile of the images, from the call stacks of a table of counts. It is an error if a sum does not fit in 64 bits; the
@@ -24,21 +24,21 @@ pub(crate) fn text_of_profile(
     requires { IsValidTable table.now }
     ensures shown { IfOk result (λ text. IsProfileText format table.now (images_of_files images.now) text.items) }
     ensures stopped { IfErr result (λ stop. (stop ≡ Stop.OutOfMemory)
-        ⊎ IsPast64BitsStop table.now (images_of_files images.now) source.now stop) }
+        ⊎ IsImageOverflowStop table.now (images_of_files images.now) source.now stop) }
 {
-    match image_past_64_bits(table, images) {
-        Some(path) => Err(Stop::rejection(past_64_bits_message(alloc, source, path))),
+    match overflowing_image(table, images) {
+        Some(path) => Err(Stop::rejection(image_overflow_message(alloc, source, path))),
         None => Ok(profile_text(alloc, format, table, images)?),
     }
 }
 
 // Returns the message for an image whose sum over the call stacks does not fit in 64 bits.
-fn past_64_bits_message<'a>(
+fn image_overflow_message<'a>(
     alloc: Global,
     source: &'a str,
     path: &'a str,
 ) -> Result<Vec<u8>, AllocError>
-    ensures { IfOk result (λ text. text.items ≡ past_64_bits_message source.now path.now) }
+    ensures { IfOk result (λ text. text.items ≡ image_overflow_message source.now path.now) }
 {
     text_of_spans(
         alloc,

@@ -20,7 +20,7 @@ use crate::cover::cover_requested_jobs;
 use crate::destinations::Destinations;
 use crate::diff::diff_reports;
 use crate::explain::explain_named_job;
-use crate::gdb::show_job_to_gdb;
+use crate::gdb::debug_named_job;
 use crate::help::respond_to_args_error;
 use crate::help_topic::topic_help;
 use crate::host::Host;
@@ -30,10 +30,10 @@ use crate::profile::profile_requested_jobs;
 use crate::run::run_requested_jobs;
 use crate::show::show_report;
 use crate::terminals::Terminals;
-use rv_command::{REJECTED, Stop, put_end_message, write_message, write_stop_message};
+use rv_command::{REJECTED, Stop, write_end_message, write_message, write_stop_message};
 use rv_files::{Closable, Inputs, Outputs, Sink, SinkFailed};
 use rv_terminal::{ColorSink, ColorSpec};
-use rvtest_cli::{Request, read_words};
+use rvtest_cli::{Request, parse_args};
 use std::convert::AsStr;
 use std::io::{self, ErrorKind, Read, Write};
 use std::marker::Brand;
@@ -74,7 +74,7 @@ where
         (IsProgramStop (D.contents host.now.inputs.now) terminals.is_out_terminal (map T.text args.entry.now))
         result.1 (outputs_of F.committed O.accepted E.accepted E.failure_count result.0) }
 {
-    let (mut destinations, outcome) = match read_words(host.alloc, args) {
+    let (mut destinations, outcome) = match parse_args(host.alloc, args) {
         Ok(Some(request)) => {
             run_in_colors::<Brand, R, D, F, O, E, P, I>(
                 host,
@@ -95,7 +95,7 @@ where
         Ok(status) => (destinations, status),
         Err(stop) => {
             let is_out_closed = destinations.out.is_closed();
-            let status = put_end_message(&mut destinations.errors, stop, is_out_closed);
+            let status = write_end_message(&mut destinations.errors, stop, is_out_closed);
             (destinations, status)
         }
     }
@@ -198,7 +198,7 @@ where
         Request::List(args) => list_chosen_jobs(inputs, alloc, &args, &mut destinations),
         Request::Console(args) => put_job_console(inputs, alloc, args, &mut destinations),
         Request::Gdb(args) => {
-            show_job_to_gdb(
+            debug_named_job(
                 host,
                 args,
                 terminals.is_out_terminal,

@@ -33,7 +33,7 @@ impl<'x, R: Threads + Wait + Sync + Clock, D: Inputs> ListRun<'x, R, D> {
         &self,
         planned: &PlannedRun<'_>,
         table: Option<CountTable>,
-        outlet: Outlet<'_, F::Place, F::File>,
+        outlet: Outlet<'_, F::Pending, F::File>,
         destinations: &mut Destinations<F, O, E>,
     ) -> Result<(), Stop>
         requires table { IfSome table (IsCountsTable self.now.args.now.stacks planned.now.reporter.now.plan.now planned.now.indices.now) }

@@ -135,7 +135,7 @@ impl<'x, R: Threads + Wait + Sync + Clock, D: Inputs> ListRun<'x, R, D> {
         planned: &PlannedRun<'_>,
         context: ReportContext,
         run: ShownRun,
-        outlets: RunOutlets<'_, F::Place, F::File>,
+        outlets: RunOutlets<'_, F::Pending, F::File>,
         destinations: Destinations<F, O, E>,
     ) -> (Destinations<F, O, E>, Result<u8, Stop>)
         requires rows { IfOk run.ran (λ run. run.rows ≡ run_rows self.now.args.now.stop_after (judge_view planned.now.reporter.now.judge)
@@ -197,7 +197,7 @@ impl<'x, R: Threads + Wait + Sync + Clock, D: Inputs> ListRun<'x, R, D> {
         context: ReportContext,
         run: StreamedRun,
         texts: Vec<Option<Vec<u8>>>,
-        outlets: RunOutlets<'_, F::Place, F::File>,
+        outlets: RunOutlets<'_, F::Pending, F::File>,
         destinations: &mut Destinations<F, O, E>,
     ) -> Result<u8, Stop>
         requires rows { run.rows ≡ run_rows self.now.args.now.stop_after (judge_view planned.now.reporter.now.judge)
@@ -248,7 +248,7 @@ impl<'x, R: Threads + Wait + Sync + Clock, D: Inputs> ListRun<'x, R, D> {
         context: ReportContext,
         rows: Rows,
         texts: Vec<Option<Vec<u8>>>,
-        outlets: Outlets<'_, F::Place, F::File>,
+        outlets: Outlets<'_, F::Pending, F::File>,
         destinations: &mut Destinations<F, O, E>,
     ) -> Result<u8, Stop>
         requires same_length { length rows ≡ length planned.now.indices.now }

@@ -24,7 +24,7 @@ pub(crate) fn open_run_outlets<'a, F: Outputs>(
     files: &mut F,
     alloc: Global,
     args: &RunArgs<'a>,
-) -> Result<RunOutlets<'a, F::Place, F::File>, Stop>
+) -> Result<RunOutlets<'a, F::Pending, F::File>, Stop>
     ensures nothing_committed { F.committed files.new ≡ F.committed files.old }
     ensures open { IfOk result (HaveRunOutletsReceived F.pending_path F.File.accepted F.File.failure_count (F.committed files.old) args.now []) }
     ensures stopped { IfErr result (IsRunWriteStop args.now) }
@@ -45,7 +45,7 @@ pub(crate) fn open_run_outlets<'a, F: Outputs>(
 
 impl<'a, P: Drop, W: Drop> RunOutlets<'a, P, W> {
     /// Abandons the files, so that none appears at its path.
-    pub(crate) fn abandon<F: Outputs<Place = P, File = W>>(self, files: &mut F)
+    pub(crate) fn abandon<F: Outputs<Pending = P, File = W>>(self, files: &mut F)
         ensures { F.committed files.new ≡ F.committed files.old }
     {
         let RunOutlets {

@@ -48,21 +48,21 @@ pub(crate) fn write_totals_line<W: Sink>(
     ran: Result<StreamedRun, StreamError>,
     out: &mut W,
 ) -> Result<StreamedRun, StreamError>
-    requires row_count { IfOk ran (λ run. length run.rows ≤ length batch.now.places.now) }
+    requires row_count { IfOk ran (λ run. length run.rows ≤ length batch.now.indices.now) }
     ensures run { IfOk result (λ run. ran ≡ Ok run) }
     ensures line { IfOk result (λ run. Appends (W.accepted out.old) (W.accepted out.new)
-        (run_totals_line (judge_view judge.now) batch.now.plan.now batch.now.places.now run.rows
-        (length batch.now.places.now - length run.rows))) }
+        (run_totals_line (judge_view judge.now) batch.now.plan.now batch.now.indices.now run.rows
+        (length batch.now.indices.now - length run.rows))) }
     ensures no_failed_writes { OnOk result (W.failure_count out.new ≡ W.failure_count out.old) }
     ensures report { IfErr result (λ error. error ≡ ObserverStopped → ran ≡ Err ObserverStopped) }
 {
     let run = ran?;
     let shown = RunRows {
         plan: batch.plan,
-        indices: batch.places,
+        indices: batch.indices,
         rows: run.rows.as_slice(),
     };
-    let hidden = batch.places.len() - shown.rows.len();
+    let hidden = batch.indices.len() - shown.rows.len();
     let mut line = Vec::new(alloc);
     push_run_totals_line(&mut line, judge, &shown, hidden)?;
     match put_all(out, line.as_slice()) {

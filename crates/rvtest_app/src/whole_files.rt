@@ -24,7 +24,7 @@ use std::alloc::Global;
 pub(crate) fn write_whole_files<F: Outputs + Drop, O: Sink + Drop, E: Sink + Drop>(
     alloc: Global,
     destinations: &mut Destinations<F, O, E>,
-    outlets: Outlets<'_, F::Place, F::File>,
+    outlets: Outlets<'_, F::Pending, F::File>,
     suite: Suite<'_>,
     rows: Rows,
 ) -> Result<(), Stop>

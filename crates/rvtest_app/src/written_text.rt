@@ -84,7 +84,7 @@ pub(crate) fn write_file<F: Outputs>(
 pub(crate) fn finish_file<F: Outputs>(
     files: &mut F,
     alloc: Global,
-    file: OpenFile<'_, F::Place, F::File>,
+    file: OpenFile<'_, F::Pending, F::File>,
     bytes: &[u8],
 ) -> Result<(), Stop>
     requires no_failures { F.File.failure_count file.sink ≡ 0 }
@@ -112,7 +112,7 @@ pub(crate) fn finish_file<F: Outputs>(
             return Err(file_error_stop(alloc, path, error));
         }
     };
-    match files.place(destination, synced) {
+    match files.commit(destination, synced) {
         Ok(()) => Ok(()),
         Err(error) => Err(file_error_stop(alloc, path, error)),
     }
@@ -123,7 +123,7 @@ pub(crate) fn finish_file<F: Outputs>(
 pub(crate) fn write_to_outlet<F: Outputs + Drop, O: Sink + Drop, E: Sink + Drop>(
     alloc: Global,
     destinations: &mut Destinations<F, O, E>,
-    outlet: Outlet<'_, F::Place, F::File>,
+    outlet: Outlet<'_, F::Pending, F::File>,
     bytes: &[u8],
 ) -> Result<(), Stop>
     requires { (path : Option (List ℕ)) × HasReceived F.pending_path F.File.accepted F.File.failure_count None path [] outlet }

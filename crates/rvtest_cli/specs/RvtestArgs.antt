@@ -152,26 +152,26 @@ pub record ProfileOptions : Type 0 where
   pub csv : Bool
 
 -- what the arguments request: a command with its arguments
-pub data Words : Type 0 where
-  run : RunOptions → Words
+pub data RequestView : Type 0 where
+  run : RunOptions → RequestView
   -- `list`, which lists the jobs that `run` would run with these arguments
-  names : RunOptions → Words
-  explain : ExplainOptions → Words
+  names : RunOptions → RequestView
+  explain : ExplainOptions → RequestView
   -- `console` with a list, the name of a job, and the directory of `--root`
-  console : Text → Text → Option Text → Words
+  console : Text → Text → Option Text → RequestView
   -- `gdb` with a list, the name of a job, the directory of `--root`, and the megabytes of `--memory`
-  gdb : Text → Text → Option Text → Option ℕ → Words
+  gdb : Text → Text → Option Text → Option ℕ → RequestView
   -- `check` with a list and the directory of `--root`
-  check : Text → Option Text → Words
-  accept : AcceptOptions → Words
-  merge : MergeOptions → Words
-  diff : DiffOptions → Words
-  show : ShowOptions → Words
-  counts : CountsOptions → Words
-  cover : CoverOptions → Words
-  profile : ProfileOptions → Words
+  check : Text → Option Text → RequestView
+  accept : AcceptOptions → RequestView
+  merge : MergeOptions → RequestView
+  diff : DiffOptions → RequestView
+  show : ShowOptions → RequestView
+  counts : CountsOptions → RequestView
+  cover : CoverOptions → RequestView
+  profile : ProfileOptions → RequestView
   -- `help` with a topic other than a command
-  help : Text → Words
+  help : Text → RequestView
 
 -- the value of `--budget` in the matches of `clap`, which overrides each job's own budget, or `None` if it is not given
 abbrev pub requested_budget : List Row → Option ℕ
@@ -209,17 +209,17 @@ run_options list group rows = record {
 }
 
 -- the request of `run` with these matches of `clap`, or `None` if the list is missing or `--group` is invalid
-abbrev pub rvtest_run_request : List Row → Option Words
-rvtest_run_request rows = option_and_then (λ list. option_map (λ group. run (run_options list group rows))
+abbrev pub run_request : List Row → Option RequestView
+run_request rows = option_and_then (λ list. option_map (λ group. run (run_options list group rows))
     (number_value (codes "group") 1 max_group rows)) (first_of (codes "list") rows)
 
 -- the request of `list` with these matches of `clap`, or `None` if the list is missing
-abbrev pub list_request : List Row → Option Words
+abbrev pub list_request : List Row → Option RequestView
 list_request rows = option_map (λ list. names (run_options list 1 rows)) (first_of (codes "list") rows)
 
 -- the request of `explain` for the job `name` of `list`, which shows its last `last` instructions; the other arguments are in the matches
 -- of `clap`
-abbrev pub explain_request_of : Text → Text → List Row → ℕ → Words
+abbrev pub explain_request_of : Text → Text → List Row → ℕ → RequestView
 explain_request_of list name rows last = explain (record {
   list = list;
   name = name;
@@ -230,29 +230,29 @@ explain_request_of list name rows last = explain (record {
 })
 
 -- the request of `explain` with these matches of `clap`, or `None` if the list or the name is missing or `--last` is invalid
-abbrev pub explain_request : List Row → Option Words
+abbrev pub explain_request : List Row → Option RequestView
 explain_request rows = option_and_then (λ list. option_and_then (λ name.
     option_map (explain_request_of list name rows) (number_value (codes "last") 0 max_last_instructions rows))
     (first_of (codes "name") rows)) (first_of (codes "list") rows)
 
 -- the request of `console` with these matches of `clap`, or `None` if the list or the name is missing
-abbrev pub console_request : List Row → Option Words
+abbrev pub console_request : List Row → Option RequestView
 console_request rows = option_and_then (λ list. option_map (λ name. console list name (first_of (codes "root") rows))
     (first_of (codes "name") rows)) (first_of (codes "list") rows)
 
 -- the request of `gdb` with these matches of `clap`, or `None` if the list or the name is missing
-abbrev pub gdb_request : List Row → Option Words
+abbrev pub gdb_request : List Row → Option RequestView
 gdb_request rows = option_and_then (λ list. option_map (λ name.
     gdb list name (first_of (codes "root") rows) (number_value (codes "memory") 64 4096 rows))
     (first_of (codes "name") rows)) (first_of (codes "list") rows)
 
 -- the request of `check` with these matches of `clap`, or `None` if the list is missing
-abbrev pub check_request : List Row → Option Words
+abbrev pub check_request : List Row → Option RequestView
 check_request rows = option_map (λ list. check list (first_of (codes "root") rows))
     (first_of (codes "list") rows)
 
 -- the request of `accept` for `list`, of which a thread takes `group` jobs at a time; the other arguments are in the matches of `clap`
-abbrev pub accept_request_of : Text → List Row → ℕ → Words
+abbrev pub accept_request_of : Text → List Row → ℕ → RequestView
 accept_request_of list rows group = accept (record {
   run = run_options list group rows;
   ends = is_flag_set (codes "ends") rows;
@@ -261,12 +261,12 @@ accept_request_of list rows group = accept (record {
 })
 
 -- the request of `accept` with these matches of `clap`, or `None` if the list is missing or `--group` is invalid
-abbrev pub accept_request : List Row → Option Words
+abbrev pub accept_request : List Row → Option RequestView
 accept_request rows = option_and_then (λ list. option_map (accept_request_of list rows)
     (number_value (codes "group") 1 max_group rows)) (first_of (codes "list") rows)
 
 -- the request of `merge` with these matches of `clap`
-abbrev pub merge_request : List Row → Words
+abbrev pub merge_request : List Row → RequestView
 merge_request rows = merge (record {
   parts = argument_values (codes "part") rows;
   report = first_of (codes "report") rows;
@@ -276,7 +276,7 @@ merge_request rows = merge (record {
 })
 
 -- the request of `diff` for the reports `old` and `new`; the other arguments are in the matches of `clap`
-abbrev pub diff_request_of : List Row → Text → Text → Words
+abbrev pub diff_request_of : List Row → Text → Text → RequestView
 diff_request_of rows old new = diff (record {
   old = old;
   new = new;
@@ -287,12 +287,12 @@ diff_request_of rows old new = diff (record {
 })
 
 -- the request of `diff` with these matches of `clap`, or `None` if a report is missing
-abbrev pub diff_request : List Row → Option Words
+abbrev pub diff_request : List Row → Option RequestView
 diff_request rows = option_and_then (λ old. option_map (diff_request_of rows old)
     (first_of (codes "new") rows)) (first_of (codes "old") rows)
 
 -- the request of `show` for `report`; the other arguments are in the matches of `clap`
-abbrev pub show_request_of : List Row → Text → Words
+abbrev pub show_request_of : List Row → Text → RequestView
 show_request_of rows report = show (record {
   report = report;
   partial = is_flag_set (codes "partial") rows;
@@ -303,22 +303,22 @@ show_request_of rows report = show (record {
 })
 
 -- the request of `show` with these matches of `clap`, or `None` if the report is missing
-abbrev pub show_request : List Row → Option Words
+abbrev pub show_request : List Row → Option RequestView
 show_request rows = option_map (show_request_of rows) (first_of (codes "report") rows)
 
 -- the request of `counts` with these matches of `clap`
-abbrev pub counts_request : List Row → Words
+abbrev pub counts_request : List Row → RequestView
 counts_request rows = counts (record {
   tables = argument_values (codes "table") rows;
   out = first_of (codes "out") rows;
 })
 
 -- the request of `cover` for `list`, of which a thread takes `group` jobs at a time; the other arguments are in the matches of `clap`
-abbrev pub cover_request_of : Text → List Row → ℕ → Words
+abbrev pub cover_request_of : Text → List Row → ℕ → RequestView
 cover_request_of list rows group = cover (record { run = run_options list group rows; csv = is_flag_set (codes "csv") rows })
 
 -- the request of `cover` with these matches of `clap`, or `None` if the list is missing or `--group` is invalid
-abbrev pub cover_request : List Row → Option Words
+abbrev pub cover_request : List Row → Option RequestView
 cover_request rows = option_and_then (λ list. option_map (cover_request_of list rows)
     (number_value (codes "group") 1 max_group rows)) (first_of (codes "list") rows)
 
@@ -331,7 +331,7 @@ abbrev pub named_run_options : Text → ℕ → List Row → RunOptions
 named_run_options list group rows = record (run_options list group rows) { only = chosen_names rows }
 
 -- the request of `profile` for `list`, of which a thread takes `group` jobs at a time; the other arguments are in the matches of `clap`
-abbrev pub profile_request_of : Text → List Row → ℕ → Words
+abbrev pub profile_request_of : Text → List Row → ℕ → RequestView
 profile_request_of list rows group = profile (record {
   run = named_run_options list group rows;
   top = number_value (codes "top") 1 max_functions rows;
@@ -339,18 +339,18 @@ profile_request_of list rows group = profile (record {
 })
 
 -- the request of `profile` with these matches of `clap`, or `None` if the list is missing or `--group` is invalid
-abbrev pub profile_request : List Row → Option Words
+abbrev pub profile_request : List Row → Option RequestView
 profile_request rows = option_and_then (λ list. option_map (profile_request_of list rows)
     (number_value (codes "group") 1 max_group rows)) (first_of (codes "list") rows)
 
 -- the request of `help` with these matches of `clap`, or `None` if the topic is missing
-abbrev pub help_request : List Row → Option Words
+abbrev pub help_request : List Row → Option RequestView
 help_request rows = option_map help (first_of (codes "topic") rows)
 
 -- the request of the subcommand `name` with these matches of `clap`, or `None` if an argument is missing or invalid, or if there is no such
 -- subcommand
-abbrev pub subcommand_request : Text → List Row → Option Words
-subcommand_request name rows = if bytes_eq name (codes "run") then rvtest_run_request rows
+abbrev pub subcommand_request : Text → List Row → Option RequestView
+subcommand_request name rows = if bytes_eq name (codes "run") then run_request rows
     else if bytes_eq name (codes "list") then list_request rows
     else if bytes_eq name (codes "explain") then explain_request rows
     else if bytes_eq name (codes "console") then console_request rows
@@ -368,7 +368,7 @@ subcommand_request name rows = if bytes_eq name (codes "run") then rvtest_run_re
 
 -- the request of the subcommand that `clap` matched, with its matches, or `None` if there is no subcommand, or if an argument is missing or
 -- invalid
-abbrev pub matched_request : Option (Text × List Row) → Option Words
+abbrev pub matched_request : Option (Text × List Row) → Option RequestView
 matched_request = option_and_then (λ found. subcommand_request found.0 found.1)
 
 -- ---- help for a command
@@ -399,7 +399,7 @@ abbrev pub requested_subcommand : List Text → Option (Text × List Row)
 requested_subcommand args = option_map_or (λ help. None) (help_command_args args) (subcommand_of rvtest_full_app args)
 
 -- the request that the arguments make, or `None` if they make none
-abbrev pub request_of_args : List Text → Option Words
+abbrev pub request_of_args : List Text → Option RequestView
 request_of_args args = matched_request (requested_subcommand args)
 
 -- ---- misused options
@@ -598,7 +598,7 @@ subcommand_misuse name rows = if bytes_eq name (codes "run") then run_misuse row
 
 -- the first misuse of the options of the subcommand that `clap` matched, or `None` if there is no subcommand or no misuse
 abbrev pub matched_misuse : Option (Text × List Row) → Option Misuse
-matched_misuse = option_and_then (λ met. subcommand_misuse met.0 met.1)
+matched_misuse = option_and_then (λ found. subcommand_misuse found.0 found.1)
 
 -- the first misuse of options in arguments that are given to `clap` unchanged, or `None` if there is none
 abbrev pub plain_misuse : List Text → Option Misuse
@@ -736,7 +736,7 @@ abbrev pub profile_options_of_args : ProfileArgs → ProfileOptions
 profile_options_of_args value = record { run = run_options_of_args value.run; top = value.top; csv = value.csv }
 
 -- the `Request`, converted from the type of the code to the request that contracts use
-abbrev pub value_of_request : Request → Words
+abbrev pub value_of_request : Request → RequestView
 value_of_request (request.Run value) = run (run_options_of_args value)
 value_of_request (request.List value) = names (run_options_of_args value)
 value_of_request (request.Explain value) = explain (explain_options_of_args value)
@@ -774,9 +774,9 @@ IsRequestInRange (request.Diff value) = IfSome value.slower (λ percent. percent
 IsRequestInRange _ = Unit {0}
 
 -- `request` is the request `args`, and its numbers are within the ranges that the command line allows; it is `None` if `args` is
-abbrev pub IsRequestFor : Option Words → Option Request → Type 0
+abbrev pub IsRequestFor : Option RequestView → Option Request → Type 0
 IsRequestFor args request = (option_map value_of_request request ≡ args) × IfSome request IsRequestInRange
 
 -- a result without an error is the request `args`, and there is no misuse; an error reports the misuse, or memory ran out
-abbrev pub IsRequestRead : Option Words → Option Misuse → Result (Option Request) ArgsError → Type 0
+abbrev pub IsRequestRead : Option RequestView → Option Misuse → Result (Option Request) ArgsError → Type 0
 IsRequestRead args misuse result = IfOk result (IsRequestFor args) × FailsByMisuse misuse result

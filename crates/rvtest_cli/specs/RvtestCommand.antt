@@ -59,9 +59,9 @@ optional_positional_rule name = record (new_rule name) { value_names = 1 }
 
 -- the rule by which `clap` parses an argument that the table describes
 abbrev pub argument_rule : Argument → Rule
-argument_rule (argument.Word name value help) = positional_rule name.now
+argument_rule (argument.Positional name value help) = positional_rule name.now
 argument_rule (argument.OptionalPositional name value help) = optional_positional_rule name.now
-argument_rule (argument.Words name value help) = repeated_rule (positional_rule name.now)
+argument_rule (argument.RepeatablePositional name value help) = repeated_rule (positional_rule name.now)
 argument_rule (argument.Option name value help) = option_rule name.now
 argument_rule (argument.File name help) = file_rule name.now
 argument_rule (argument.RepeatableOption name value help) = repeated_rule (option_rule name.now)

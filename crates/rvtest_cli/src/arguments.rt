@@ -1,7 +1,7 @@
 //! The arguments of a command, and the rules by which `clap` parses them.
 
 ghost use Rattle.std.specs.Prelude.{◌≡◌, false};
-ghost use Rattle.clap.specs.Words.{App, rule_of};
+ghost use Rattle.clap.specs.RepeatablePositional.{App, rule_of};
 ghost use Rattle.rv_cli.specs.CommandBuilder.{IsBuilt};
 ghost use Rattle.rvtest_cli.specs.RvtestCommand.{file_rule, flag_rule, number_rule, optional_positional_rule, argument_rule};
 ghost use Rattle.rvtest_cli.specs.RvtestCommand.{with_arguments, with_letter};
@@ -23,11 +23,11 @@ pub(crate) struct NumberRange {
 #[derive(Clone, Copy)]
 pub(crate) enum Argument<'a> {
     /// A required positional argument.
-    Word(&'a str, &'a str, &'a str),
+    Positional(&'a str, &'a str, &'a str),
     /// An optional positional argument.
     OptionalPositional(&'a str, &'a str, &'a str),
     /// One or more positional arguments.
-    Words(&'a str, &'a str, &'a str),
+    RepeatablePositional(&'a str, &'a str, &'a str),
     /// An option with a value.
     Option(&'a str, &'a str, &'a str),
     /// An option with the path of a file, which is not empty.
@@ -48,11 +48,13 @@ impl<'a> Argument<'a> {
         ensures { (rule_of result ≡ argument_rule self.now) × (result.global ≡ false) }
     {
         match *self {
-            Argument::Word(name, value, help) => positional_argument(alloc, name, value, help),
+            Argument::Positional(name, value, help) => positional_argument(
+                alloc, name, value, help,
+            ),
             Argument::OptionalPositional(name, value, help) => {
                 optional_positional_argument(alloc, name, value, help)
             }
-            Argument::Words(name, value, help) => {
+            Argument::RepeatablePositional(name, value, help) => {
                 positional_argument(alloc, name, value, help).action(ArgAction::Append)
             }
             Argument::Option(name, value, help) => option_argument(alloc, name, value, help),

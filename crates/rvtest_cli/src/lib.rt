@@ -1,6 +1,6 @@
 //! The command line of `rvtest`, which `clap` parses, and the requests that its arguments make.
 //!
-//! [`read_words`] parses the arguments of a process. Its error has the form of an error of `clap`; a request for the help or the version is
+//! [`parse_args`] parses the arguments of a process. Its error has the form of an error of `clap`; a request for the help or the version is
 //! an error, too. [`usage_error`] makes an error that `clap` does not detect, such as an invalid regular expression.
 #![tactic(auto)]
 
@@ -40,6 +40,6 @@ pub use gdb::GdbArgs;
 pub use help::HelpArgs;
 pub use merge::MergeArgs;
 pub use profile::ProfileArgs;
-pub use requests::{Request, read_words};
+pub use requests::{Request, parse_args};
 pub use run::RunArgs;
 pub use show::ShowArgs;

@@ -22,7 +22,7 @@ use crate::help::{HelpArgs, help_request};
 use crate::list::list_request;
 use crate::merge::{MergeArgs, merge_request};
 use crate::profile::{ProfileArgs, profile_request};
-use crate::run::{RunArgs, rvtest_run_request};
+use crate::run::{RunArgs, run_request};
 use crate::show::{ShowArgs, show_request};
 use crate::tips::FirstArgument;
 use clap::ArgMatches;
@@ -65,7 +65,7 @@ pub enum Request<'a> {
 /// Parses the arguments, of which the first is the program's name. Returns `None` if they make no request. Most errors are those of `clap`;
 /// others report misused options, which `clap` does not detect. A request for the help or the version is an error, too, of the kind
 /// `DisplayHelp` or `DisplayVersion`.
-pub fn read_words<'a, T: AsStr>(
+pub fn parse_args<'a, T: AsStr>(
     alloc: Global,
     args: &'a [T],
 ) -> Result<Option<Request<'a>>, ArgsError>
@@ -163,7 +163,7 @@ fn subcommand_request<'a>(
         (subcommand_misuse name.now (rows_of (found_of values.now))) result }
 {
     match name {
-        "run" => rvtest_run_request(alloc, values),
+        "run" => run_request(alloc, values),
         "list" => list_request(alloc, values),
         "explain" => explain_request(alloc, values),
         "console" => Ok(console_request(values)),

@@ -4,7 +4,7 @@ ghost use Rattle.std.specs.Prelude.{◌≡◌, ◌≤◌, IfOk, None};
 ghost use Rattle.clap.specs.Words.{found_of, rows_of};
 ghost use Rattle.rv_cli.specs.Limits.{max_group};
 ghost use Rattle.rvtest_cli.specs.RvtestArgs.{AreRunArgsInRange, IsRequestRead, are_counts_overwriting, are_rows_saved, are_rows_written_twice, are_stacks_alone, is_choice_given, is_failed_report_overwritten, is_report_given, is_into_stdout, run_options_of_args};
-ghost use Rattle.rvtest_cli.specs.RvtestArgs.{run_misuse, rvtest_run_request, run_options};
+ghost use Rattle.rvtest_cli.specs.RvtestArgs.{run_misuse, run_request, run_options};
 
 use crate::args_error::ArgsError;
 use crate::command::run_command;
@@ -75,11 +75,11 @@ pub struct RunArgs<'a> {
 
 /// Returns the request of `run` with these values, or an error if options are misused; `None` if the list is missing or `--group` is
 /// invalid.
-pub(crate) fn rvtest_run_request<'a>(
+pub(crate) fn run_request<'a>(
     alloc: Global,
     values: &ArgMatches<'a>,
 ) -> Result<Option<Request<'a>>, ArgsError>
-    ensures { IsRequestRead (rvtest_run_request (rows_of (found_of values.now)))
+    ensures { IsRequestRead (run_request (rows_of (found_of values.now)))
         (run_misuse (rows_of (found_of values.now))) result }
 {
     match run_misuse(values) {
@@ -93,7 +93,7 @@ fn valid_run_request<'a>(
     alloc: Global,
     values: &ArgMatches<'a>,
 ) -> Result<Option<Request<'a>>, ArgsError>
-    ensures { IsRequestRead (rvtest_run_request (rows_of (found_of values.now))) None result }
+    ensures { IsRequestRead (run_request (rows_of (found_of values.now))) None result }
 {
     let Some(list) = text_value(values, "list") else {
         return Ok(None);

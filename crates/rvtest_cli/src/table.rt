@@ -33,7 +33,7 @@ pub(crate) const RUN: Subcommand<'static> = Subcommand {
     about: "Run the jobs of a list and show each failure",
     after: examples::RUN,
     arguments: &[
-        Argument::Word("list", "LIST", LIST_PATH),
+        Argument::Positional("list", "LIST", LIST_PATH),
         Argument::RepeatableOption("only", "NAME", ONLY),
         Argument::Option("match", "REGEX", MATCH),
         Argument::Option("exclude", "REGEX", EXCLUDE),
@@ -78,7 +78,7 @@ pub(crate) const LIST: Subcommand<'static> = Subcommand {
     about: "List the jobs that a run would execute, one per line",
     after: examples::LIST,
     arguments: &[
-        Argument::Word("list", "LIST", LIST_PATH),
+        Argument::Positional("list", "LIST", LIST_PATH),
         Argument::RepeatableOption("only", "NAME", ONLY),
         Argument::Option("match", "REGEX", MATCH),
         Argument::Option("exclude", "REGEX", EXCLUDE),
@@ -93,8 +93,8 @@ pub(crate) const EXPLAIN: Subcommand<'static> = Subcommand {
     about: "Run one job and show how it ended and how it got there",
     after: examples::EXPLAIN,
     arguments: &[
-        Argument::Word("list", "LIST", LIST_PATH),
-        Argument::Word("name", "NAME", NAME),
+        Argument::Positional("list", "LIST", LIST_PATH),
+        Argument::Positional("name", "NAME", NAME),
         Argument::Number("last", None, LAST, LAST_BOUNDS, &["16"]),
         Argument::Number("budget", None, BUDGET, BUDGET_BOUNDS, &[]),
         Argument::Option("root", "DIR", ROOT),
@@ -107,8 +107,8 @@ const CONSOLE: Subcommand<'static> = Subcommand {
     about: "Run one job and write its console output to standard output",
     after: examples::CONSOLE,
     arguments: &[
-        Argument::Word("list", "LIST", LIST_PATH),
-        Argument::Word("name", "NAME", NAME),
+        Argument::Positional("list", "LIST", LIST_PATH),
+        Argument::Positional("name", "NAME", NAME),
         Argument::Option("root", "DIR", ROOT),
     ],
 };
@@ -118,8 +118,8 @@ const GDB: Subcommand<'static> = Subcommand {
     about: "Debug the run of one job in gdb, forwards and backwards",
     after: examples::GDB,
     arguments: &[
-        Argument::Word("list", "LIST", LIST_PATH),
-        Argument::Word("name", "NAME", NAME),
+        Argument::Positional("list", "LIST", LIST_PATH),
+        Argument::Positional("name", "NAME", NAME),
         Argument::Option("root", "DIR", ROOT),
         Argument::Number("memory", None, MEMORY, MEMORY_BOUNDS, &[]),
     ],
@@ -130,7 +130,7 @@ const CHECK: Subcommand<'static> = Subcommand {
     about: "Report everything that is wrong with a list and its files, without running anything",
     after: examples::CHECK,
     arguments: &[
-        Argument::Word("list", "LIST", LIST_PATH),
+        Argument::Positional("list", "LIST", LIST_PATH),
         Argument::Option("root", "DIR", ROOT),
     ],
 };
@@ -140,7 +140,7 @@ pub(crate) const ACCEPT: Subcommand<'static> = Subcommand {
     about: "Run jobs and update their expectations to the actual results",
     after: examples::ACCEPT,
     arguments: &[
-        Argument::Word("list", "LIST", LIST_PATH),
+        Argument::Positional("list", "LIST", LIST_PATH),
         Argument::RepeatableOption("only", "NAME", ONLY),
         Argument::Option("match", "REGEX", MATCH),
         Argument::Option("exclude", "REGEX", EXCLUDE),
@@ -172,7 +172,7 @@ pub(crate) const MERGE: Subcommand<'static> = Subcommand {
     about: "Merge the parts of one run into the report of the whole list",
     after: examples::MERGE,
     arguments: &[
-        Argument::Words(
+        Argument::RepeatablePositional(
             "part",
             "PART",
             "Paths of the parts of one run, in any order",
@@ -189,8 +189,8 @@ pub(crate) const DIFF: Subcommand<'static> = Subcommand {
     about: "Show which jobs differ between two reports",
     after: examples::DIFF,
     arguments: &[
-        Argument::Word("old", "OLD", "Path of the old report"),
-        Argument::Word("new", "NEW", "Path of the new report"),
+        Argument::Positional("old", "OLD", "Path of the old report"),
+        Argument::Positional("new", "NEW", "Path of the new report"),
         Argument::Flag("partial", None, PARTIAL),
         Argument::Flag(
             "steps",
@@ -213,7 +213,7 @@ pub(crate) const SHOW: Subcommand<'static> = Subcommand {
     about: "Show the failures in a report",
     after: examples::SHOW,
     arguments: &[
-        Argument::Word("report", "REPORT", "Path of the report"),
+        Argument::Positional("report", "REPORT", "Path of the report"),
         Argument::Flag("partial", None, PARTIAL),
         Argument::File("junit", JUNIT),
         Argument::Option("suite", "NAME", SUITE),
@@ -227,7 +227,7 @@ const COUNTS: Subcommand<'static> = Subcommand {
     about: "Add up tables of counts written by run --counts",
     after: examples::COUNTS,
     arguments: &[
-        Argument::Words("table", "TABLE", "Paths of the tables, in any order"),
+        Argument::RepeatablePositional("table", "TABLE", "Paths of the tables, in any order"),
         Argument::File(
             "out",
             "Write the sum to this file [default: standard output]",
@@ -240,7 +240,7 @@ pub(crate) const COVER: Subcommand<'static> = Subcommand {
     about: "Run jobs and show how much of their images was executed",
     after: examples::COVER,
     arguments: &[
-        Argument::Word("list", "LIST", LIST_PATH),
+        Argument::Positional("list", "LIST", LIST_PATH),
         Argument::RepeatableOption("only", "NAME", ONLY),
         Argument::Option("match", "REGEX", MATCH),
         Argument::Option("exclude", "REGEX", EXCLUDE),
@@ -261,7 +261,7 @@ pub(crate) const PROFILE: Subcommand<'static> = Subcommand {
     about: "Run jobs and show in which functions they spent their steps",
     after: examples::PROFILE,
     arguments: &[
-        Argument::Word("list", "LIST", LIST_PATH),
+        Argument::Positional("list", "LIST", LIST_PATH),
         Argument::OptionalPositional(
             "name",
             "NAME",

@@ -26,28 +26,32 @@ pub(crate) fn error_text(
     error: &Error,
     first: FirstArgument,
 ) -> Result<String, AllocError> {
-    let told = error.to_string(alloc)?;
+    let text = error.to_string(alloc)?;
     if error.use_stderr() {
-        text_with_tips(alloc, told.as_str(), first)
+        text_with_tips(alloc, text.as_str(), first)
     } else {
-        Ok(told)
+        Ok(text)
     }
 }
 
 // Returns the text of an error without misleading tips. Each line is made printable, since the arguments that it quotes can have any
 // characters.
-fn text_with_tips(alloc: Global, told: &str, first: FirstArgument) -> Result<String, AllocError> {
-    let written = unknown_option(told);
+fn text_with_tips(
+    alloc: Global,
+    clap_text: &str,
+    first: FirstArgument,
+) -> Result<String, AllocError> {
+    let written = unknown_option(clap_text);
     let mut text = Vec::new(alloc);
-    let mut is_behind_empty = false;
-    for line in told.lines() {
+    let mut follows_empty = false;
+    for line in clap_text.lines() {
         let is_empty = line.is_empty();
-        if is_misleading_tip(alloc, written, line)? || is_empty && is_behind_empty {
+        if is_misleading_tip(alloc, written, line)? || is_empty && follows_empty {
             continue;
         }
-        is_behind_empty = is_empty;
+        follows_empty = is_empty;
         if line.starts_with("Usage: ") {
-            push_tip(alloc, &mut text, told, line, first)?;
+            push_tip(alloc, &mut text, clap_text, line, first)?;
         }
         push_line(&mut text, line)?;
     }
@@ -57,10 +61,10 @@ fn text_with_tips(alloc: Global, told: &str, first: FirstArgument) -> Result<Str
 // Appends a line of an error. If it rejects a number, the explanation of `clap` is replaced by the range of valid numbers.
 fn push_line(text: &mut Vec<u8>, line: &str) -> Result<(), AllocError> {
     match rejected_number(line) {
-        Some((front, option, bounds)) => push_spans(
+        Some((start, option, bounds)) => push_spans(
             text,
             &[
-                Span::Printable(front.as_bytes()),
+                Span::Printable(start.as_bytes()),
                 Span::Text("' for '--"),
                 Span::Text(option),
                 Span::Text(" <N>': expected an integer from "),
@@ -77,11 +81,11 @@ fn push_line(text: &mut Vec<u8>, line: &str) -> Result<(), AllocError> {
 // If a line rejects the number given for an option, returns the line up to the end of the number, the name of the option, and the range of
 // numbers that it accepts. Otherwise returns `None`.
 fn rejected_number(line: &str) -> Option<(&str, &str, NumberRange)> {
-    let (front, behind) = line.rsplit_once("' for '--")?;
-    let (option, _) = behind.split_once(" <N>': ")?;
+    let (start, rest) = line.rsplit_once("' for '--")?;
+    let (option, _) = rest.split_once(" <N>': ")?;
     let bounds = number_range(option)?;
-    if front.starts_with("error: invalid value '") {
-        Some((front, option, bounds))
+    if start.starts_with("error: invalid value '") {
+        Some((start, option, bounds))
     } else {
         None
     }
@@ -91,11 +95,11 @@ fn rejected_number(line: &str) -> Option<(&str, &str, NumberRange)> {
 fn push_tip(
     alloc: Global,
     text: &mut Vec<u8>,
-    told: &str,
+    clap_text: &str,
     usage: &str,
     first: FirstArgument,
 ) -> Result<(), AllocError> {
-    let argument = text_between(told, "error: unexpected argument '", "' found\n");
+    let argument = text_between(clap_text, "error: unexpected argument '", "' found\n");
     if usage.starts_with("Usage: rvtest run ") && is_job_name(argument) {
         return push_spans(
             text,
@@ -106,7 +110,7 @@ fn push_tip(
             ],
         );
     }
-    let topic = text_between(told, "error: unrecognized subcommand '", "'\n");
+    let topic = text_between(clap_text, "error: unrecognized subcommand '", "'\n");
     if matches!(first, FirstArgument::Topic) && levenshtein(alloc, topic, "keys")? == 1 {
         push_spans(
             text,
@@ -121,11 +125,11 @@ fn is_job_name(word: &str) -> bool {
     is_name(word.as_bytes()) && !word.starts_with("-")
 }
 
-// Returns the text between `front` and `behind` if `told` begins with `front` and contains `behind` after that. Otherwise returns an empty
+// Returns the text between `prefix` and `end` if `clap_text` begins with `prefix` and contains `end` after that. Otherwise returns an empty
 // text.
-fn text_between<'a>(told: &'a str, front: &str, behind: &str) -> &'a str {
-    match told.strip_prefix(front) {
-        Some(rest) => match rest.split_once(behind) {
+fn text_between<'a>(clap_text: &'a str, prefix: &str, end: &str) -> &'a str {
+    match clap_text.strip_prefix(prefix) {
+        Some(rest) => match rest.split_once(end) {
             Some((word, _)) => word,
             None => "",
         },
@@ -134,9 +138,9 @@ fn text_between<'a>(told: &'a str, front: &str, behind: &str) -> &'a str {
 }
 
 // If an error is about an unknown option, returns the option without its dashes, and otherwise an empty text.
-fn unknown_option(told: &str) -> &str {
-    match told.split_once("'--") {
-        Some((_, behind)) => match behind.split_once("' found") {
+fn unknown_option(clap_text: &str) -> &str {
+    match clap_text.split_once("'--") {
+        Some((_, rest)) => match rest.split_once("' found") {
             Some((option, _)) => option,
             None => "",
         },

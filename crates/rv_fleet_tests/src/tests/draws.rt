@@ -11,9 +11,9 @@ use std::thread::Threads;
 
 // Splits a pass in two; `None` if all pass indices are used.
 pub(super) fn split_pass(claims: &Claims, pass: Pass) -> Option<(Pass, Pass)>
-    requires { pass.draw ≡ claims.now }
-    ensures first { IfSome result (λ passes. passes.0.draw ≡ claims.now) }
-    ensures second { IfSome result (λ passes. passes.1.draw ≡ claims.now) }
+    requires { pass.counter ≡ claims.now }
+    ensures first { IfSome result (λ passes. passes.0.counter ≡ claims.now) }
+    ensures second { IfSome result (λ passes. passes.1.counter ≡ claims.now) }
 {
     match claims.split(pass) {
         Ok(passes) => Some(passes),
@@ -29,8 +29,8 @@ fn push_response(
     pass: &mut Pass,
     request: &str,
 ) -> Result<(), AllocError>
-    requires { pass.old.draw ≡ claims.now }
-    ensures { pass.new.draw ≡ claims.now }
+    requires { pass.old.counter ≡ claims.now }
+    ensures { pass.new.counter ≡ claims.now }
 {
     if request.is_empty() {
         return Ok(());
@@ -52,8 +52,8 @@ fn push_responses(
     pass: &mut Pass,
     requests: &str,
 ) -> Result<(), AllocError>
-    requires { pass.old.draw ≡ claims.now }
-    ensures { pass.new.draw ≡ claims.now }
+    requires { pass.old.counter ≡ claims.now }
+    ensures { pass.new.counter ≡ claims.now }
 {
     for request in requests.split(' ') {
         push_response(text, claims, pass, request)?;
@@ -70,10 +70,10 @@ fn push_responses_of_both(
     second: &mut Pass,
     requests: &str,
 ) -> Result<(), AllocError>
-    requires first { first.old.draw ≡ claims.now }
-    requires second { second.old.draw ≡ claims.now }
-    ensures first { first.new.draw ≡ claims.now }
-    ensures second { second.new.draw ≡ claims.now }
+    requires first { first.old.counter ≡ claims.now }
+    requires second { second.old.counter ≡ claims.now }
+    ensures first { first.new.counter ≡ claims.now }
+    ensures second { second.new.counter ≡ claims.now }
 {
     for request in requests.split(' ') {
         if request.starts_with('q') {
@@ -88,9 +88,9 @@ fn push_responses_of_both(
 // Turns two passes into one, as `end` says: `join` joins them; `meet, join` first calls `meet`, and then joins them; anything else calls
 // `meet` and drops the second pass.
 fn one_pass_of(claims: &Claims, first: Pass, second: Pass, end: &str) -> Pass
-    requires first { first.draw ≡ claims.now }
-    requires second { second.draw ≡ claims.now }
-    ensures { result.draw ≡ claims.now }
+    requires first { first.counter ≡ claims.now }
+    requires second { second.counter ≡ claims.now }
+    ensures { result.counter ≡ claims.now }
 {
     if end == "join" {
         return claims.join(first, second);
@@ -111,8 +111,8 @@ fn split_and_merge(
     requests: &str,
     end: &str,
 ) -> Result<Pass, Fail>
-    requires { pass.draw ≡ claims.now }
-    ensures { IfOk result (λ pass. pass.draw ≡ claims.now) }
+    requires { pass.counter ≡ claims.now }
+    ensures { IfOk result (λ pass. pass.counter ≡ claims.now) }
 {
     let Some((mut first, mut second)) = split_pass(claims, pass) else {
         return Err("no pass index is free".into());
@@ -122,9 +122,13 @@ fn split_and_merge(
 }
 
 // Splits a pass and joins the two again until no pass index is left. Appends the number of splits, and returns the pass.
-fn fill(text: &mut String, claims: &Claims, mut pass: Pass) -> Result<Pass, AllocError>
-    requires { pass.draw ≡ claims.now }
-    ensures { IfOk result (λ pass. pass.draw ≡ claims.now) }
+fn use_all_pass_indices(
+    text: &mut String,
+    claims: &Claims,
+    mut pass: Pass,
+) -> Result<Pass, AllocError>
+    requires { pass.counter ≡ claims.now }
+    ensures { IfOk result (λ pass. pass.counter ≡ claims.now) }
 {
     for splits in 0..100 {
         match claims.split(pass) {
@@ -141,20 +145,20 @@ fn fill(text: &mut String, claims: &Claims, mut pass: Pass) -> Result<Pass, Allo
 // Changes a pass as the fifth cell of a line says: `alone` does nothing, `fill` splits and joins it until no pass index is left, and
 // anything else splits it once and turns the two into one pass.
 fn handle_pass(text: &mut String, claims: &Claims, pass: Pass, line: &str) -> Result<Pass, Fail>
-    requires { pass.draw ≡ claims.now }
-    ensures { IfOk result (λ pass. pass.draw ≡ claims.now) }
+    requires { pass.counter ≡ claims.now }
+    ensures { IfOk result (λ pass. pass.counter ≡ claims.now) }
 {
     match cell_of(line, 4) {
         "alone" => Ok(pass),
-        "fill" => Ok(fill(text, claims, pass)?),
+        "fill" => Ok(use_all_pass_indices(text, claims, pass)?),
         end => split_and_merge(text, claims, pass, cell_of(line, 3), end),
     }
 }
 
 // Appends the answers of the passes of a line, and returns the last pass.
 fn push_all(text: &mut String, claims: &Claims, mut pass: Pass, line: &str) -> Result<Pass, Fail>
-    requires { pass.draw ≡ claims.now }
-    ensures { IfOk result (λ pass. pass.draw ≡ claims.now) }
+    requires { pass.counter ≡ claims.now }
+    ensures { IfOk result (λ pass. pass.counter ≡ claims.now) }
 {
     push_responses(text, claims, &mut pass, cell_of(line, 2))?;
     let mut pass = handle_pass(text, claims, pass, line)?;
@@ -189,8 +193,8 @@ const PIECES: u64 = 1000;
 
 /// Draws until no chunk is left, and returns the pass and the numbers drawn; `None` if memory ran out.
 fn draw_all(alloc: Global, claims: &Claims, mut pass: Pass) -> Option<(Pass, Vec<u64>)>
-    requires { pass.draw ≡ claims.now }
-    ensures { IfSome result (λ both. both.0.draw ≡ claims.now) }
+    requires { pass.counter ≡ claims.now }
+    ensures { IfSome result (λ both. both.0.counter ≡ claims.now) }
 {
     let mut numbers = Vec::new(alloc);
     for _ in 0..=PIECES {
@@ -210,9 +214,9 @@ fn both_drawn(
     one: Option<(Pass, Vec<u64>)>,
     other: Option<(Pass, Vec<u64>)>,
 ) -> Option<(Pass, Vec<u64>)>
-    requires one { IfSome one (λ both. both.0.draw ≡ claims.now) }
-    requires other { IfSome other (λ both. both.0.draw ≡ claims.now) }
-    ensures { IfSome result (λ both. both.0.draw ≡ claims.now) }
+    requires one { IfSome one (λ both. both.0.counter ≡ claims.now) }
+    requires other { IfSome other (λ both. both.0.counter ≡ claims.now) }
+    ensures { IfSome result (λ both. both.0.counter ≡ claims.now) }
 {
     let (first, mut numbers) = one?;
     let (second, others) = other?;
@@ -230,19 +234,19 @@ fn draw_all_in_two<R: Threads + Sync>(
     claims: &Claims,
     pass: Pass,
 ) -> Option<(Pass, Vec<u64>)>
-    requires { pass.draw ≡ claims.now }
-    ensures { IfSome result (λ both. both.0.draw ≡ claims.now) }
+    requires { pass.counter ≡ claims.now }
+    ensures { IfSome result (λ both. both.0.counter ≡ claims.now) }
 {
     let (first, second) = split_pass(claims, pass)?;
     let (one, other) = thread::join(
         rt,
         move || -> Option<(Pass, Vec<u64>)>
-            requires { first.draw ≡ claims.now }
-            ensures { IfSome result (λ both. both.0.draw ≡ claims.entry.now) }
+            requires { first.counter ≡ claims.now }
+            ensures { IfSome result (λ both. both.0.counter ≡ claims.entry.now) }
         { draw_all(alloc, claims, first) },
         move || -> Option<(Pass, Vec<u64>)>
-            requires { second.draw ≡ claims.now }
-            ensures { IfSome result (λ both. both.0.draw ≡ claims.entry.now) }
+            requires { second.counter ≡ claims.now }
+            ensures { IfSome result (λ both. both.0.counter ≡ claims.entry.now) }
         { draw_all(alloc, claims, second) },
     );
     both_drawn(claims, one, other)
@@ -256,26 +260,26 @@ fn draw_all_in_four<R: Threads + Sync>(
     claims: &Claims,
     pass: Pass,
 ) -> Option<(Pass, Vec<u64>)>
-    requires { pass.draw ≡ claims.now }
-    ensures { IfSome result (λ both. both.0.draw ≡ claims.now) }
+    requires { pass.counter ≡ claims.now }
+    ensures { IfSome result (λ both. both.0.counter ≡ claims.now) }
 {
     let (first, second) = split_pass(claims, pass)?;
     let (one, other) = thread::join(
         rt,
         move || -> Option<(Pass, Vec<u64>)>
-            requires { first.draw ≡ claims.now }
-            ensures { IfSome result (λ both. both.0.draw ≡ claims.entry.now) }
+            requires { first.counter ≡ claims.now }
+            ensures { IfSome result (λ both. both.0.counter ≡ claims.entry.now) }
         { draw_all_in_two(rt, alloc, claims, first) },
         move || -> Option<(Pass, Vec<u64>)>
-            requires { second.draw ≡ claims.now }
-            ensures { IfSome result (λ both. both.0.draw ≡ claims.entry.now) }
+            requires { second.counter ≡ claims.now }
+            ensures { IfSome result (λ both. both.0.counter ≡ claims.entry.now) }
         { draw_all_in_two(rt, alloc, claims, second) },
     );
     both_drawn(claims, one, other)
 }
 
 // Whether the numbers are 0, 1, 2 and so on, each once, in any order.
-fn are_each_once(mut numbers: Vec<u64>) -> bool {
+fn are_all_indices_once(mut numbers: Vec<u64>) -> bool {
     if numbers.sort().is_err() {
         return false;
     }
@@ -300,6 +304,6 @@ pub(super) fn four_threads_text<R: Threads + Sync>(rt: &R, alloc: Global) -> Res
     let ended = pass.ended();
     let finished = claims.finish(pass);
     let count = numbers.len();
-    let once = are_each_once(numbers);
+    let once = are_all_indices_once(numbers);
     Ok(format!(in alloc; "{count} {once} {ended} {finished}")?)
 }

@@ -30,7 +30,7 @@ impl<'a> RowReporter for Names<'a> {
     fn push_row_text(
         &self,
         _alloc: Global,
-        _place: usize,
+        _index: usize,
         row: &Row,
         text: &mut Vec<u8>,
     ) -> Result<(), AllocError> {

@@ -31,8 +31,8 @@ fn work_alone(
 ) -> Result<(Pass, Vec<Piece>), AllocError>
     requires group { (0 < group) × (group ≤ 4096) }
     requires pieces { claims.now.pieces ≡ piece_count_of_plan plan.now group }
-    requires pass { pass.draw ≡ claims.now }
-    ensures { IfOk result (λ both. both.0.draw ≡ claims.now) }
+    requires pass { pass.counter ≡ claims.now }
+    ensures { IfOk result (λ both. both.0.counter ≡ claims.now) }
 {
     let pieces = work(alloc, claims, &mut pass, plan, group, gate)?;
     Ok((pass, pieces))
@@ -50,8 +50,8 @@ fn work_in_two<R: Threads>(
 ) -> Result<(Pass, Vec<Piece>), Fail>
     requires group { (0 < group) × (group ≤ 4096) }
     requires pieces { claims.now.pieces ≡ piece_count_of_plan plan.now group }
-    requires pass { pass.draw ≡ claims.now }
-    ensures { IfOk result (λ both. both.0.draw ≡ claims.now) }
+    requires pass { pass.counter ≡ claims.now }
+    ensures { IfOk result (λ both. both.0.counter ≡ claims.now) }
 {
     let Some((first, second)) = split_pass(claims, pass) else {
         return Err("no index is free".into());
@@ -60,13 +60,13 @@ fn work_in_two<R: Threads>(
         rt,
         move || -> Result<(Pass, Vec<Piece>), AllocError>
             requires { (0 < group) × (group ≤ 4096)
-                × (claims.now.pieces ≡ piece_count_of_plan plan.now group) × (first.draw ≡ claims.now) }
-            ensures { IfOk result (λ both. both.0.draw ≡ claims.entry.now) }
+                × (claims.now.pieces ≡ piece_count_of_plan plan.now group) × (first.counter ≡ claims.now) }
+            ensures { IfOk result (λ both. both.0.counter ≡ claims.entry.now) }
         { work_alone(alloc, claims, first, plan, group, gate) },
         move || -> Result<(Pass, Vec<Piece>), AllocError>
             requires { (0 < group) × (group ≤ 4096)
-                × (claims.now.pieces ≡ piece_count_of_plan plan.now group) × (second.draw ≡ claims.now) }
-            ensures { IfOk result (λ both. both.0.draw ≡ claims.entry.now) }
+                × (claims.now.pieces ≡ piece_count_of_plan plan.now group) × (second.counter ≡ claims.now) }
+            ensures { IfOk result (λ both. both.0.counter ≡ claims.entry.now) }
         { work_alone(alloc, claims, second, plan, group, gate) },
     );
     let (first, mut pieces) = first?;
@@ -88,8 +88,8 @@ fn pieces_of_workers<R: Threads>(
 ) -> Result<(Pass, Vec<Piece>), Fail>
     requires group { (0 < group) × (group ≤ 4096) }
     requires pieces { claims.now.pieces ≡ piece_count_of_plan plan.now group }
-    requires pass { pass.draw ≡ claims.now }
-    ensures { IfOk result (λ both. both.0.draw ≡ claims.now) }
+    requires pass { pass.counter ≡ claims.now }
+    ensures { IfOk result (λ both. both.0.counter ≡ claims.now) }
 {
     if workers == 1 {
         return Ok(work_alone(alloc, claims, pass, plan, group, gate)?);
@@ -129,17 +129,17 @@ fn computed_pieces<R: Threads>(
     })
 }
 
-// Appends the number and the rows of a chunk: the one at index `wanted_index` if one worker drew all chunks (`alone`), else the one with
+// Appends the number and the rows of a chunk: the one at `index` if one worker drew all chunks (`alone`), else the one with
 // this number.
 fn push_piece(
     text: &mut String,
     pieces: &[Piece],
-    wanted_index: u64,
+    index: u64,
     alone: bool,
 ) -> Result<(), AllocError> {
-    for (index, piece) in pieces.iter().enumerate() {
+    for (position, piece) in pieces.iter().enumerate() {
         let number = piece.number;
-        if wanted_index == if alone { index as u64 } else { number } {
+        if index == if alone { position as u64 } else { number } {
             write!(text, " {number}:")?;
             push_rows(text, piece.rows.as_slice())?;
         }

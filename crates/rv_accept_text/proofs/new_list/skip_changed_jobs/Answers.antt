@@ -5,5 +5,5 @@ use Rattle.rv_accept_text.proofs.new_list.skip_changed_jobs.Goals as goal
 
 pub returns-clause-unchanged : goal.returns-clause-unchanged
 returns-clause-unchanged c =
-    let reason_list : c.as_slice-2.result.now ≡ change_skip_reasons c.args.jobs.now c.args.runs.items = search rules in
-    rw (c.in_ok-runs.ensures, reason_list) (changed_are_left c.args.jobs.now c.args.runs.items)
+    let skip_reasons : c.as_slice-2.result.now ≡ change_skip_reasons c.args.jobs.now c.args.runs.items = search rules in
+    rw (c.in_ok-runs.ensures, skip_reasons) (changed_are_left c.args.jobs.now c.args.runs.items)

@@ -7,7 +7,7 @@ abbrev pub ghosts-run_jobs : goal.ghosts-run_jobs
 ghosts-run_jobs g a =
     let work = a.work.now in record {
       is_result = λ number table. IsTableOfRange work.batch.now.plan.now
-          (indices_in work.batch.now.places.now (range_at work.pieces.now number)) table;
-      jobs = length work.pieces.now;
+          (indices_in work.batch.now.indices.now (range_at work.ranges.now number)) table;
+      jobs = length work.ranges.now;
       group = 1;
     }

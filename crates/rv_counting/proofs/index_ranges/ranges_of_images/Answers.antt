@@ -10,7 +10,7 @@ loop-from-init c =
     let plan = c.args.plan.now in
     let indices = c.args.indices.now in record {
       within = omega arith;
-      are = subst (λ (ps : List IndexRange). AreIndexRangesTo plan indices 0 ps) (sym c.new-pieces.ensures.items) (no_pieces plan indices);
+      are = subst (λ (ps : List IndexRange). AreIndexRangesTo plan indices 0 ps) (sym c.new-ranges.ensures.items) (no_pieces plan indices);
     }
 
 pub loop-from-preserved : goal.loop-from-preserved
@@ -22,7 +22,7 @@ loop-from-preserved c =
     let next = c.range_end-to.ensures in record {
       within = next.within;
       are = subst (λ (ps : List IndexRange). AreIndexRangesTo plan indices to ps) (sym c.in_ok-push.ensures.items)
-          (one_piece_more plan indices from c.loop-from.pieces.items (record { begin = from; end = to }) c.loop-from.invariant.are next);
+          (one_piece_more plan indices from c.loop-from.ranges.items (record { begin = from; end = to }) c.loop-from.invariant.are next);
     }
 
 pub returns : goal.returns
@@ -30,4 +30,4 @@ returns c =
     let w = c.loop-from.invariant.within in
     let t = c.loop-from-test.false in
     let all : c.loop-from.from ≡ length c.args.indices.now = omega (arith, w, t) in
-    subst (λ n. AreIndexRangesTo c.args.plan.now c.args.indices.now n c.loop-from.pieces.items) all c.loop-from.invariant.are
+    subst (λ n. AreIndexRangesTo c.args.plan.now c.args.indices.now n c.loop-from.ranges.items) all c.loop-from.invariant.are

@@ -6,7 +6,7 @@ use Rattle.rv_counting.proofs.index_ranges.ranges_of_images.Given as goal
 abbrev pub invariant-loop-from : goal.invariant-loop-from
 invariant-loop-from l = record {
   within : l.from ≤ length l.indices;
-  are : AreIndexRangesTo l.plan l.indices l.from l.pieces.items;
+  are : AreIndexRangesTo l.plan l.indices l.from l.ranges.items;
 }
 
 abbrev pub decreases-loop-from : goal.decreases-loop-from

@@ -1,7 +1,7 @@
 use Rattle.std.proofs.Common.{◌++◌, ℕ, List}
 use Rattle.rv_rows.specs.Verdict.{are_same_signatures}
 use Rattle.rv_diff.specs.Change.{have_same_console, are_same_endings, agree_in_steps, are_same_verdicts}
-use Rattle.rv_diff.specs.Differences.{becomes, change_line, change_lines, console_change_text, ending_text}
+use Rattle.rv_diff.specs.Differences.{change_text, change_line, change_lines, console_change_text, ending_text}
 use Rattle.rv_diff.specs.Differences.{signature_change_text, steps_change_text, verdict_change_text}
 use Rattle.rv_diff.proofs.OneMore.{ended, more}
 use Rattle.rv_diff.proofs.differences.push_change_lines.Goals as goal
@@ -13,7 +13,7 @@ returns c =
     let old = c.args.old_row.now in
     let new = c.args.new_row.now in
     let ending : List ℕ = change_line new.name (are_same_endings compare old.ending new.ending)
-    (becomes (ending_text old.ending) (ending_text new.ending)) in
+    (change_text (ending_text old.ending) (ending_text new.ending)) in
     let counts : List ℕ = change_line new.name (agree_in_steps compare old new) (steps_change_text compare old.steps new.steps) in
     let console : List ℕ = change_line new.name (have_same_console old new) (console_change_text old.console new.console) in
     let signature : List ℕ = change_line new.name (are_same_signatures old.signature new.signature)

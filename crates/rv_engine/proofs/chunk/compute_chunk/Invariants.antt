@@ -5,6 +5,6 @@ use Rattle.rv_engine.proofs.chunk.compute_chunk.Given as goal
 abbrev pub invariant-loop-number : goal.invariant-loop-number
 invariant-loop-number g l = record {
   worker_state : g.W.Work.is_worker_state l.work l.worker_state;
-  each : AreResults (λ k. g.W.Work.is_output l.work (l.start + k)) l.made.items;
-  count : l.start + length l.made.items ≡ l.number;
+  each : AreResults (λ k. g.W.Work.is_output l.work (l.start + k)) l.outputs.items;
+  count : l.start + length l.outputs.items ≡ l.number;
 }

@@ -3,33 +3,33 @@ use Rattle.std.specs.Vec.Iter.{into_iter_items}
 use Rattle.rv_engine.proofs.Hearing.{heard_as, heard_some, nothing_left, piece_heard, piece_more}
 use Rattle.rv_engine.proofs.delivery.deliver_chunk.Goals as goal
 
-pub loop-made-init : goal.loop-made-init
-loop-made-init g c = record {
+pub loop-output-init : goal.loop-output-init
+loop-output-init g c = record {
   received = heard_as g.J.RunSpec.is_result g.J.RunSpec.jobs (g.L.Listener.has_received c.args.listener.now) _ _
       (let e : min (c.args.chunk * g.J.RunSpec.group) g.J.RunSpec.jobs ≡ min (c.args.chunk * g.J.RunSpec.group) g.J.RunSpec.jobs + 0 = omega arith in e)
       c.requires.received.0;
-  goes = c.requires.received.1;
+  running = c.requires.received.1;
   front = refl;
-  left = c.into_iter-made-iterator.ensures.into_iter_gives.1 ∙ c.args.results.ok.0
-      ∙ ap length (sym c.into_iter-made-iterator.ensures.into_iter_gives.0);
+  left = c.into_iter-output-iterator.ensures.into_iter_gives.1 ∙ c.args.results.ok.0
+      ∙ ap length (sym c.into_iter-output-iterator.ensures.into_iter_gives.0);
 }
 
-pub loop-made-preserved : goal.loop-made-preserved
-loop-made-preserved g c =
-    let before = c.loop-made.yielded in
-    let made = c.in-Some.made in
+pub loop-output-preserved : goal.loop-output-preserved
+loop-output-preserved g c =
+    let before = c.loop-output.yielded in
+    let output = c.in-Some.output in
     let rest = into_iter_items c.next.new.self in
-    let steps : into_iter_items c.loop-made.made-iterator ≡ made ∷ rest = c.in-Some.ensures.steps.0 in
-    let whole : before ++ made ∷ rest ≡ c.args.results.items =
-    ap (λ (l : List g.row.H.Denot). before ++ l) (sym steps) ∙ c.loop-made.invariant.front
-    ∙ c.into_iter-made-iterator.ensures.into_iter_gives.0 in record {
+    let steps : into_iter_items c.loop-output.output-iterator ≡ output ∷ rest = c.in-Some.ensures.steps.0 in
+    let whole : before ++ output ∷ rest ≡ c.args.results.items =
+    ap (λ (l : List g.row.H.Denot). before ++ l) (sym steps) ∙ c.loop-output.invariant.front
+    ∙ c.into_iter-output-iterator.ensures.into_iter_gives.0 in record {
       received = piece_more g.J.RunSpec.is_result g.J.RunSpec.jobs g.J.RunSpec.group c.args.chunk c.args.results.items c.requires.results
-          (g.L.Listener.has_received c.loop-made.listener) (g.L.Listener.has_received c.receive.new.self) before made rest whole
-          c.loop-made.invariant.received c.receive.ensures.received;
-      goes = c.receive.ensures.goes c.in_default.is;
-      front = append_assoc before (made ∷ []) rest ∙ ap (λ (l : List g.row.H.Denot). before ++ l) (sym steps)
-          ∙ c.loop-made.invariant.front;
-      left = (let was = c.loop-made.invariant.left in
+          (g.L.Listener.has_received c.loop-output.listener) (g.L.Listener.has_received c.receive.new.self) before output rest whole
+          c.loop-output.invariant.received c.receive.ensures.received;
+      running = c.receive.ensures.running c.in_default.is;
+      front = append_assoc before (output ∷ []) rest ∙ ap (λ (l : List g.row.H.Denot). before ++ l) (sym steps)
+          ∙ c.loop-output.invariant.front;
+      left = (let was = c.loop-output.invariant.left in
           let gone = c.in-Some.ensures.steps.1 in
           let short = ap length steps in
           omega (arith, was, gone, short));
@@ -37,26 +37,26 @@ loop-made-preserved g c =
 
 pub returns-in-Stop : goal.returns-in-Stop
 returns-in-Stop g c =
-    let before = c.loop-made.yielded in
-    let made = c.in-Some.made in
+    let before = c.loop-output.yielded in
+    let output = c.in-Some.output in
     let rest = into_iter_items c.next.new.self in
-    let steps : into_iter_items c.loop-made.made-iterator ≡ made ∷ rest = c.in-Some.ensures.steps.0 in
-    let whole : before ++ made ∷ rest ≡ c.args.results.items =
-    ap (λ (l : List g.row.H.Denot). before ++ l) (sym steps) ∙ c.loop-made.invariant.front
-    ∙ c.into_iter-made-iterator.ensures.into_iter_gives.0 in
+    let steps : into_iter_items c.loop-output.output-iterator ≡ output ∷ rest = c.in-Some.ensures.steps.0 in
+    let whole : before ++ output ∷ rest ≡ c.args.results.items =
+    ap (λ (l : List g.row.H.Denot). before ++ l) (sym steps) ∙ c.loop-output.invariant.front
+    ∙ c.into_iter-output-iterator.ensures.into_iter_gives.0 in
     let more = piece_more g.J.RunSpec.is_result g.J.RunSpec.jobs g.J.RunSpec.group c.args.chunk c.args.results.items c.requires.results
-    (g.L.Listener.has_received c.loop-made.listener) (g.L.Listener.has_received c.receive.new.self) before made rest whole
-    c.loop-made.invariant.received c.receive.ensures.received in
+    (g.L.Listener.has_received c.loop-output.listener) (g.L.Listener.has_received c.receive.new.self) before output rest whole
+    c.loop-output.invariant.received c.receive.ensures.received in
     (heard_some g.J.RunSpec.is_result g.J.RunSpec.jobs (g.L.Listener.has_received c.receive.new.self) _ more, c.receive.ensures.stops c.in-Stop.is)
 
 pub returns : goal.returns
 returns g c =
-    let before = c.loop-made.yielded in
+    let before = c.loop-output.yielded in
     let none = c.in-None.ensures.steps in
-    let empty : into_iter_items c.loop-made.made-iterator ≡ [] = nothing_left _ (sym c.loop-made.invariant.left ∙ none.0) in
+    let empty : into_iter_items c.loop-output.output-iterator ≡ [] = nothing_left _ (sym c.loop-output.invariant.left ∙ none.0) in
     let all : before ≡ c.args.results.items =
-    sym (append-nil before) ∙ rw empty at c.loop-made.invariant.front ∙ c.into_iter-made-iterator.ensures.into_iter_gives.0 in (
+    sym (append-nil before) ∙ rw empty at c.loop-output.invariant.front ∙ c.into_iter-output-iterator.ensures.into_iter_gives.0 in (
       piece_heard g.J.RunSpec.is_result g.J.RunSpec.jobs g.J.RunSpec.group c.args.chunk c.args.results.items c.requires.results
-          (g.L.Listener.has_received c.loop-made.listener) (length before) (ap length all) c.loop-made.invariant.received,
-      c.loop-made.invariant.goes,
+          (g.L.Listener.has_received c.loop-output.listener) (length before) (ap length all) c.loop-output.invariant.received,
+      c.loop-output.invariant.running,
     )

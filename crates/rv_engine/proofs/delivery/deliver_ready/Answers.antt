@@ -6,4 +6,4 @@ returns-in-Continue-clause-received g c =
     let received = rw c.in-Continue.is at c.deliver_chunks-received.ensures.received in
     heard_paused g.J.RunSpec.is_result g.J.RunSpec.jobs g.J.RunSpec.group (g.L.Listener.has_received c.deliver_chunks-received.new.listener)
     (g.L.Listener.has_received c.pause.new.self) (g.L.Listener.stops c.pause.new.self) c.deliver_chunks-received.result.next c.pause.result
-    received.0 c.pause.ensures.received c.pause.ensures.goes c.pause.ensures.stops
+    received.0 c.pause.ensures.received c.pause.ensures.running c.pause.ensures.stops

@@ -6,6 +6,6 @@ abbrev pub ghosts-run_jobs : goal.ghosts-run_jobs
 ghosts-run_jobs g a =
     let batch = a.work.now.batch.now in record {
       is_result = λ number row. row ≡ row_of_number batch number;
-      jobs = length batch.places.now;
+      jobs = length batch.indices.now;
       group = a.crew.now.group;
     }

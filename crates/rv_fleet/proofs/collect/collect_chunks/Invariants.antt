@@ -9,4 +9,4 @@ abbrev pub invariant-loop-pass : goal.invariant-loop-pass
 invariant-loop-pass l =
     AreChunkSlots l.pieces l.slots.items
     × AllKeepPromise (batch_rows l.pieces.batch) l.pieces.group l.claims (into_iter_items l.pass-iterator)
-    × IfSome l.all (λ other. other.draw ≡ l.claims)
+    × IfSome l.all (λ other. other.counter ≡ l.claims)

@@ -17,7 +17,7 @@ loop-number-preserved g c =
     let m = made_one (numbered_piece c.args.pieces.now) c.args.pass.now _ _ _ _ _ _ _
     was.1 t.0 t.2 (ap (λ (d : CounterView). d.pieces) c.requires.pass) was.2 c.in_ok-push.ensures.items
     c.in_ok-chunk.ensures.piece in
-    (ap (λ (h : PassView). h.draw) t.0 ∙ was.0, m.0, m.1, c.in_ok-chunk.ensures.recent)
+    (ap (λ (h : PassView). h.counter) t.0 ∙ was.0, m.0, m.1, c.in_ok-chunk.ensures.recent)
 
 pub returns-in_err-push-clause-pass : goal.returns-in_err-push-clause-pass
 returns-in_err-push-clause-pass g c =

@@ -7,7 +7,7 @@ use Rattle.rv_fleet.proofs.worker.compute_drawn_chunks.Given as goal
 
 abbrev pub invariant-loop-number : goal.invariant-loop-number
 invariant-loop-number g l =
-    (l.pass.draw ≡ l.claims) × HasDrawnMore l.initial.pass l.pass
+    (l.pass.counter ≡ l.claims) × HasDrawnMore l.initial.pass l.pass
     × (l.computed.items ≡ map (numbered_piece l.pieces) (new_pieces l.initial.pass l.pass))
     × AreOutcomesOfPlan l.pieces.batch.plan.now l.worker_state.recent
 

@@ -1,5 +1,5 @@
 use Rattle.rv_trace.specs.Machine.{state_of}
-use Rattle.rv_history.specs.Places.{IsReached}
+use Rattle.rv_history.specs.RunSteps.{IsReached}
 use Rattle.rv_history.specs.Starts.{start_of}
 use Rattle.rv_history.proofs.Counting.{LacksUpTo}
 use Rattle.rv_history.proofs.counts.first_step_with.Given as goal

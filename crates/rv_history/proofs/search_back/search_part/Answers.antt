@@ -2,7 +2,7 @@ use Rattle.std.proofs.Common.{ℕ, ◌≡◌, ◌∙◌, ◌+◌, ◌<◌, ◌�
 use Rattle.rv_trace.specs.Machine.{state_of}
 use Rattle.rv_history.specs.declared.outcome.SearchEnd.{SearchEnd}
 use Rattle.rv_history.specs.LastStop.{IsLastStopIn}
-use Rattle.rv_history.specs.Places.{last_step}
+use Rattle.rv_history.specs.RunSteps.{last_step}
 use Rattle.rv_history.specs.Stops.{is_break, watched_bytes}
 use Rattle.rv_history.proofs.Backward.{last_more, stepped_place}
 use Rattle.rv_history.proofs.Reaching.{comes_within}

@@ -1,7 +1,7 @@
 use Rattle.std.proofs.Common.{ℕ, ◌≡◌, ◌≤◌}
 use Rattle.rv_trace.specs.Machine.{state_of}
 use Rattle.rv_history.specs.LastStop.{IsLastStopIn}
-use Rattle.rv_history.specs.Places.{IsReached}
+use Rattle.rv_history.specs.RunSteps.{IsReached}
 use Rattle.rv_history.specs.Stops.{watched_bytes}
 use Rattle.rv_history.proofs.search_back.search_part.Given as goal
 

@@ -1,7 +1,7 @@
 use Rattle.std.proofs.Common.{◌-◌, arith, inl, inr, sym}
 use Rattle.rv_trace.specs.Machine.{state_of}
 use Rattle.rv_trace.proofs.Public.{completes}
-use Rattle.rv_history.specs.Places.{IsReached}
+use Rattle.rv_history.specs.RunSteps.{IsReached}
 use Rattle.rv_history.proofs.Backward.{completes_before, stays_behind_change, steps_back}
 use Rattle.rv_history.proofs.Unstopped.{step_unwatched}
 use Rattle.rv_history.proofs.search_back.step_before.Goals as goal

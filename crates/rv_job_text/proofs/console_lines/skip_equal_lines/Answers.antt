@@ -11,8 +11,8 @@ use Rattle.rv_job_text.proofs.console_lines.skip_equal_lines.Goals as goal
 
 pub returns-then-ne-clause-equal : goal.returns-then-ne-clause-equal
 returns-then-ne-clause-equal c =
-    let actual = c.loop-line.parting.actual.now in
-    let expected = c.loop-line.parting.expected.now in
+    let actual = c.loop-line.divergence.actual.now in
+    let expected = c.loop-line.divergence.expected.now in
     let m = c.split_whole_line in
     let w = c.split_whole_line-in-loop-line in
     let unlike : not (bytes_eq m.result.0.now w.result.0.now) ≡ true = sym c.ne.ensures ∙ c.if-ne.true in
@@ -25,9 +25,9 @@ returns-then-ne-clause-equal c =
 
 pub loop-line-preserved : goal.loop-line-preserved
 loop-line-preserved c =
-    let actual = c.loop-line.parting.actual.now in
-    let expected = c.loop-line.parting.expected.now in
-    let equal = c.loop-line.parting.equal in
+    let actual = c.loop-line.divergence.actual.now in
+    let expected = c.loop-line.divergence.expected.now in
+    let equal = c.loop-line.divergence.equal in
     let m = c.split_whole_line in
     let w = c.split_whole_line-in-loop-line in
     let some : 0 < length actual = grind (arith, common_steps) in
@@ -57,8 +57,8 @@ loop-line-preserved c =
 
 pub returns-clause-equal : goal.returns-clause-equal
 returns-clause-equal c =
-    let actual = c.loop-line.parting.actual.now in
-    let expected = complete_lines c.loop-line.parting.expected.now in
+    let actual = c.loop-line.divergence.actual.now in
+    let expected = complete_lines c.loop-line.divergence.expected.now in
     let empty : length actual ≡ 0 = grind (arith, common_steps) in
     let none = ap (λ lines. common_prefix_len bytes_eq lines expected) (complete_lines-nil actual empty) ∙ none_in_front expected in
     let kept = c.loop-line.invariant.counted in

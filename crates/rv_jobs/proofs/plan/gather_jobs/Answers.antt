@@ -44,13 +44,13 @@ pub invariant_of-result : goal.invariant_of-result
 invariant_of-result g c =
     let used = c.loop-index.invariant.paths
     ∙ needed_whole c.args.jobs c.args.indices.now c.loop-index.index-index (omega arith)
-    ∙ ap (λ indices. paths_used (jobs_needed_for c.args.jobs indices)) (sym c.in_ok-chosen.ensures.items) in
+    ∙ ap (λ indices. paths_used (jobs_needed_for c.args.jobs indices)) (sym c.in_ok-gathered_for.ensures.items) in
     record {
       jobs = c.as_slice.ensures.jobs;
       same_length = sym (ap length used) ∙ length-map c.loop-index.path_results (λ (a : PathResult). a.path)
           ∙ sym (ap (length {A = Kept}) c.into_results-results.ensures
           ∙ length-map c.loop-index.path_results (λ (a : PathResult). a.kept));
-      result_indices = subst (λ js. ArePartialResultIndicesOfJobs (paths_used (jobs_needed_for c.args.jobs c.in_ok-chosen.chosen.items)) js
+      result_indices = subst (λ js. ArePartialResultIndicesOfJobs (paths_used (jobs_needed_for c.args.jobs c.in_ok-gathered_for.gathered_for.items)) js
           c.in_ok-result_indices_of_jobs.result_indices_of_jobs.items)
           c.as_slice-2.ensures.value
           (subst (λ xs. ArePartialResultIndicesOfJobs xs c.as_slice-2.result.now c.in_ok-result_indices_of_jobs.result_indices_of_jobs.items) used c.in_ok-result_indices_of_jobs.ensures);
@@ -62,16 +62,16 @@ pub returns-clause-paths : goal.returns-clause-paths
 returns-clause-paths g c =
     let used = c.loop-index.invariant.paths
     ∙ needed_whole c.args.jobs c.args.indices.now c.loop-index.index-index (omega arith) in
-    let used_by_chosen = used ∙ ap (λ indices. paths_used (jobs_needed_for c.args.jobs indices)) (sym c.in_ok-chosen.ensures.items) in
-    ap paths_of (parts_whole c.loop-index.path_results (paths_used (jobs_needed_for c.args.jobs c.in_ok-chosen.chosen.items))
+    let used_by_chosen = used ∙ ap (λ indices. paths_used (jobs_needed_for c.args.jobs indices)) (sym c.in_ok-gathered_for.ensures.items) in
+    ap paths_of (parts_whole c.loop-index.path_results (paths_used (jobs_needed_for c.args.jobs c.in_ok-gathered_for.gathered_for.items))
     c.into_results-results.result.items used_by_chosen c.into_results-results.ensures) ∙ used
 
 pub returns-clause-agree : goal.returns-clause-agree
 returns-clause-agree g c =
     let used = c.loop-index.invariant.paths
     ∙ needed_whole c.args.jobs c.args.indices.now c.loop-index.index-index (omega arith) in
-    let used_by_chosen = used ∙ ap (λ indices. paths_used (jobs_needed_for c.args.jobs indices)) (sym c.in_ok-chosen.ensures.items) in
-    let same = parts_whole c.loop-index.path_results (paths_used (jobs_needed_for c.args.jobs c.in_ok-chosen.chosen.items))
+    let used_by_chosen = used ∙ ap (λ indices. paths_used (jobs_needed_for c.args.jobs indices)) (sym c.in_ok-gathered_for.ensures.items) in
+    let same = parts_whole c.loop-index.path_results (paths_used (jobs_needed_for c.args.jobs c.in_ok-gathered_for.gathered_for.items))
     c.into_results-results.result.items used_by_chosen c.into_results-results.ensures in
     subst (AgreeWithContents (g.S.Store.contents c.args.store.now)) (sym same) c.loop-index.invariant.kept
 
@@ -79,8 +79,8 @@ pub returns-clause-faults : goal.returns-clause-faults
 returns-clause-faults g c =
     let used = c.loop-index.invariant.paths
     ∙ needed_whole c.args.jobs c.args.indices.now c.loop-index.index-index (omega arith) in
-    let used_by_chosen = used ∙ ap (λ indices. paths_used (jobs_needed_for c.args.jobs indices)) (sym c.in_ok-chosen.ensures.items) in
-    let same = parts_whole c.loop-index.path_results (paths_used (jobs_needed_for c.args.jobs c.in_ok-chosen.chosen.items))
+    let used_by_chosen = used ∙ ap (λ indices. paths_used (jobs_needed_for c.args.jobs indices)) (sym c.in_ok-gathered_for.ensures.items) in
+    let same = parts_whole c.loop-index.path_results (paths_used (jobs_needed_for c.args.jobs c.in_ok-gathered_for.gathered_for.items))
     c.into_results-results.result.items used_by_chosen c.into_results-results.ensures in
     c.loop-index.invariant.faults
     ∙ ap (λ (a : List PathResult). after_increments (g.S.Store.fault_count c.args.store.now) (unreadable_count a)) (sym same)

@@ -14,10 +14,10 @@ loop-offset-preserved c =
     let section = c.args.tables.now.lines.now in
     let here : c.unit_size-offset.result ≡ min (unit_size (drop c.loop-offset.offset section)) (length (drop c.loop-offset.offset section)) =
     c.unit_size-offset.ensures ∙ ap (λ xs. min (unit_size xs) (length xs)) c.bytes_from.ensures in
-    subst (λ (r : RejectedUnits). FoundSoFar strings section c.args.addresses.now c.clear_all.new.found (c.loop-offset.offset + c.unit_size-offset.result) c.note_unit-read.new.found r)
+    subst (λ (r : RejectedUnits). FoundSoFar strings section c.args.addresses.now c.clear_all.new.found (c.loop-offset.offset + c.unit_size-offset.result) c.record_unit-read.new.found r)
     (sym c.after-rejected.ensures)
     (found_on strings section c.args.addresses.now c.clear_all.new.found c.loop-offset.offset c.loop-offset.found c.loop-offset.rejected c.loop-offset.invariant
-    c.unit_size-offset.result c.note_unit-read.result c.note_unit-read.new.found c.loop-offset-test.true here c.note_unit-read.ensures.value c.note_unit-read.ensures.found)
+    c.unit_size-offset.result c.record_unit-read.result c.record_unit-read.new.found c.loop-offset-test.true here c.record_unit-read.ensures.value c.record_unit-read.ensures.found)
 
 pub loop-offset-smaller : goal.loop-offset-smaller
 loop-offset-smaller c =

@@ -13,6 +13,6 @@ returns c =
     let ms = table_view c.args.table.now in
     some_then c.args.message.now c.push_key_and_value.new.message c.push_expected_text.new.message
     (IsKeyAndValue wanted.key.now (get_member wanted.key.now ms)) (ExplainsExpectedValue wanted ms)
-    (bytes_text wanted.rest c.reported_byte_count.result ++ (codes ": " ++ expected_text wanted))
+    (bytes_text wanted.inserted c.reported_byte_count.result ++ (codes ": " ++ expected_text wanted))
     c.push_key_and_value.ensures c.push_expected_text.ensures
-    (λ met is. (met, is, ap (λ n. met ++ (bytes_text wanted.rest n ++ (codes ": " ++ expected_text wanted))) c.reported_byte_count.ensures))
+    (λ met is. (met, is, ap (λ n. met ++ (bytes_text wanted.inserted n ++ (codes ": " ++ expected_text wanted))) c.reported_byte_count.ensures))

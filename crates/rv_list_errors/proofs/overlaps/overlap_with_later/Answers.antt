@@ -5,7 +5,7 @@ use Rattle.rv_list_errors.proofs.overlaps.overlap_with_later.Goals as goal
 
 pub loop-later-preserved : goal.loop-later-preserved
 loop-later-preserved c other above low =
-    one_more_so (λ place. c.args.at < place → AreApart (region_at c.args.regions.now c.args.at) (region_at c.args.regions.now place))
+    one_more_so (λ place. c.args.index < place → AreApart (region_at c.args.regions.now c.args.index) (region_at c.args.regions.now place))
     c.loop-later.later (λ place less more. c.loop-later.invariant place more less) (λ more. c.in_default.ensures) other low above
 
 pub returns : goal.returns

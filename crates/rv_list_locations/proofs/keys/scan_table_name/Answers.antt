@@ -7,7 +7,7 @@ pub returns-in-Some : goal.returns-in-Some
 returns-in-Some c = (
   c.requires,
   (key_view c.in_ok-key.key, c.in_ok-key.field-0-1.now),
-  rw c.after_brackets.ensures at c.in_ok-key.ensures.value,
+  rw c.header_key.ensures at c.in_ok-key.ensures.value,
   part_is c.in_ok-key.key.path.items 0 c.in-Some.part.now (codes "job") (search rules) (search (rules, tests)),
   search rules,
 )

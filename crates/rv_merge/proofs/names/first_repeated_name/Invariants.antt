@@ -9,5 +9,5 @@ use Rattle.rv_merge.proofs.names.first_repeated_name.Given as goal
 abbrev pub invariant-loop-at : goal.invariant-loop-at
 invariant-loop-at l = record {
   rest : are_distinct (row_names (take l.at l.rows)) (row_names (drop l.at l.rows)) ≡ are_distinct [] (row_names l.rows);
-  places : (t : List ℕ) → get_by (λ k. slice_cmp nat_cmp t k.now) l.places ≡ index_in (row_names (take l.at l.rows)) t;
+  first_indices : (t : List ℕ) → get_by (λ k. slice_cmp nat_cmp t k.now) l.first_indices ≡ index_in (row_names (take l.at l.rows)) t;
 }

@@ -1,14 +1,14 @@
 use Rattle.std.proofs.Common.{◌∙◌, ◌++◌, ap, append_assoc, arith}
 use Rattle.rv_cover_view.specs.JobImages.{image_of_file}
 use Rattle.rv_cover_view.specs.declared.image_file.ImageFile.{ImageFile}
-use Rattle.rv_profile.specs.ImageStacks.{is_past_64_bits}
+use Rattle.rv_profile.specs.ImageStacks.{has_overflowing_sum}
 use Rattle.rv_profile.proofs.Found.{file_is_few}
 use Rattle.rv_profile.proofs.Shown.{all_shown, file_more}
 use Rattle.rv_profile.proofs.images_text.profile_text.Goals as goal
 
 pub push_image-requires-clause-fits : goal.push_image-requires-clause-fits
 push_image-requires-clause-fits c =
-    ap (λ (file : ImageFile). is_past_64_bits c.args.table.now (image_of_file file)) c.image-item.is
+    ap (λ (file : ImageFile). has_overflowing_sum c.args.table.now (image_of_file file)) c.image-item.is
     ∙ file_is_few c.args.table.now c.args.images.now c.loop-image.image-index c.image-item.result c.loop-image-test.true c.requires.fits
 
 pub loop-image-preserved : goal.loop-image-preserved

@@ -6,7 +6,7 @@ use Rattle.rv_report.proofs.lenient_rows.read_rows.Given as goal
 
 abbrev pub invariant-loop-rest : goal.invariant-loop-rest
 invariant-loop-rest l =
-    with_lines (lines l.rest) (reader_state_view l.gathering) ≡ with_lines (lines l.text) (state_between_rows [] [] Whole)
+    with_lines (lines l.rest) (reader_state_view l.state) ≡ with_lines (lines l.text) (state_between_rows [] [] Whole)
 
 abbrev pub decreases-loop-rest : goal.decreases-loop-rest
 decreases-loop-rest l = length l.rest

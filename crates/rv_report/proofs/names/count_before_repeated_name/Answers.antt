@@ -17,7 +17,7 @@ pub loop-at-init : goal.loop-at-init
 unfolding index_in
 loop-at-init c = record {
   rest = omega arith;
-  places = λ t. rw c.new-places.ensures.empty refl;
+  first_indices = λ t. rw c.new-first_indices.ensures.empty refl;
 }
 
 pub returns-then-contains_key : goal.returns-then-contains_key
@@ -27,7 +27,7 @@ returns-then-contains_key c =
     let name = c.as_str-name.result.now in
     let earlier = row_names (take at rows) in
     let there : is_some (index_in earlier name) ≡ true =
-    ap is_some (sym (c.loop-at.invariant.places name)) ∙ sym c.contains_key.ensures ∙ c.if-contains_key.true in
+    ap is_some (sym (c.loop-at.invariant.first_indices name)) ∙ sym c.contains_key.ensures ∙ c.if-contains_key.true in
     omega (
       arith,
       new_here earlier rows at c.index-rows-at.result name (omega arith)
@@ -44,7 +44,7 @@ loop-at-preserved c =
     let earlier = row_names (take at rows) in
     let is = c.as_str-name.ensures ∙ ap (λ r. r.name) c.index-rows-at.is in
     let fresh : is_some (index_in earlier name) ≡ false =
-    ap is_some (sym (c.loop-at.invariant.places name)) ∙ sym c.contains_key.ensures ∙ c.if-contains_key.false in
+    ap is_some (sym (c.loop-at.invariant.first_indices name)) ∙ sym c.contains_key.ensures ∙ c.if-contains_key.false in
     let grown = names_on rows at row name (omega arith) is in
     let step = new_later earlier rows at row name (omega arith) is fresh in
     let same = ap (λ (ts : List (List ℕ)). count_before_repeated_name ts (row_names (drop (at + 1) rows))) grown in
@@ -52,12 +52,12 @@ loop-at-preserved c =
     sym (length-names (take at rows) ∙ length-taken at rows (omega arith)) in
     record {
       rest = omega (arith, step, same, c.loop-at.invariant.rest);
-      places = λ t.
-          places_more (λ q. get_by (λ k. slice_cmp nat_cmp q k.now) c.loop-at.places)
+      first_indices = λ t.
+          places_more (λ q. get_by (λ k. slice_cmp nat_cmp q k.now) c.loop-at.first_indices)
           (λ q. get_by (λ k. slice_cmp nat_cmp q k.now) c.insert.new.self) earlier (row_names (take (at + 1) rows)) name
           at
-          (btree_map_updates_str name c.loop-at.places c.insert.new.self (Some at) c.in_ok-insert.ensures.updates) long
-          c.loop-at.invariant.places (nowhere (index_in earlier name) fresh) grown t;
+          (btree_map_updates_str name c.loop-at.first_indices c.insert.new.self (Some at) c.in_ok-insert.ensures.updates) long
+          c.loop-at.invariant.first_indices (nowhere (index_in earlier name) fresh) grown t;
     }
 
 pub returns : goal.returns

@@ -10,5 +10,5 @@ use Rattle.rv_report.proofs.names.count_before_repeated_name.Given as goal
 abbrev pub invariant-loop-at : goal.invariant-loop-at
 invariant-loop-at l = record {
   rest : l.at + count_before_repeated_name (row_names (take l.at l.rows)) (row_names (drop l.at l.rows)) ≡ count_before_repeated_name [] (row_names l.rows);
-  places : (t : List ℕ) → get_by (λ k. slice_cmp nat_cmp t k.now) l.places ≡ index_in (row_names (take l.at l.rows)) t;
+  first_indices : (t : List ℕ) → get_by (λ k. slice_cmp nat_cmp t k.now) l.first_indices ≡ index_in (row_names (take l.at l.rows)) t;
 }

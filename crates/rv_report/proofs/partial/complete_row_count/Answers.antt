@@ -31,7 +31,7 @@ returns-in-None-clause-longest c =
     let rest = c.loop-at.rest.now in
     let text : c.as_bytes.result.now ≡ row_text (get_or numbers at 0 - 1) row =
     rw c.new-text.ensures.bytes at (c.as_bytes.ensures.value ∙ c.in_ok-push_row.ensures) in
-    let other : (behind : List ℕ) → rest ≡ row_text (get_or numbers at 0 - 1) row ++ behind → ⊥ =
+    let other : (tail : List ℕ) → rest ≡ row_text (get_or numbers at 0 - 1) row ++ tail → ⊥ =
     rw text at (strip_prefix_is Decides-eqb rest c.as_bytes.result.now None c.in-None.ensures.cases) in
     no_more_row c.args.bytes.now rest numbers rows at (get_or numbers at 0) row (omega arith)
     (rw (← c.as_slice-numbers.ensures, ← c.as_slice-rows.ensures) at c.requires.counted) refl
@@ -45,11 +45,11 @@ loop-at-preserved c =
     let at = c.loop-at.at in
     let row = c.index-rows-at.result in
     let rest = c.loop-at.rest.now in
-    let behind = c.in-Some.behind in
+    let tail = c.in-Some.tail in
     let text : c.as_bytes.result.now ≡ row_text (get_or numbers at 0 - 1) row =
     rw c.new-text.ensures.bytes at (c.as_bytes.ensures.value ∙ c.in_ok-push_row.ensures) in
-    let more : rest ≡ row_text (get_or numbers at 0 - 1) row ++ behind.now =
-    rw text at (strip_prefix_is Decides-eqb rest c.as_bytes.result.now (Some behind) c.in-Some.ensures.cases) in
-    rw add-one (one_more_row c.args.bytes.now rest behind.now numbers rows at (get_or numbers at 0) row (omega arith)
+    let more : rest ≡ row_text (get_or numbers at 0 - 1) row ++ tail.now =
+    rw text at (strip_prefix_is Decides-eqb rest c.as_bytes.result.now (Some tail) c.in-Some.ensures.cases) in
+    rw add-one (one_more_row c.args.bytes.now rest tail.now numbers rows at (get_or numbers at 0) row (omega arith)
     (rw (← c.as_slice-numbers.ensures, ← c.as_slice-rows.ensures) at c.requires.counted) refl
     (sym c.index-rows-at.is) c.loop-at.invariant more)

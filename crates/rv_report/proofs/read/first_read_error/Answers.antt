@@ -9,7 +9,7 @@ use Rattle.rv_report.proofs.read.first_read_error.Goals as goal
 
 pub returns-then-at-text : goal.returns-then-at-text
 returns-then-at-text c =
-    sym (difference_past c.loop-at.line c.loop-at.met c.args.text.now c.args.bytes.now c.loop-at.at (omega arith)
+    sym (difference_past c.loop-at.line c.loop-at.word c.args.text.now c.args.bytes.now c.loop-at.at (omega arith)
     (omega arith))
     ∙ c.loop-at.invariant.rest
 
@@ -19,9 +19,9 @@ returns-then-b-text c =
     let bytes = c.args.bytes.now in
     let at = c.loop-at.at in
     let line = c.loop-at.line in
-    let met = c.loop-at.met in
-    c.read_error_at.ensures ∙ ap (read_error_at line met (get_or text at 0)) (take_rest bytes at)
-    ∙ sym (difference_here line met text bytes at (omega arith) (omega arith) c.if-b-text.true)
+    let word = c.loop-at.word in
+    c.read_error_at.ensures ∙ ap (read_error_at line word (get_or text at 0)) (take_rest bytes at)
+    ∙ sym (difference_here line word text bytes at (omega arith) (omega arith) c.if-b-text.true)
     ∙ c.loop-at.invariant.rest
 
 pub loop-at-preserved : goal.loop-at-preserved
@@ -31,23 +31,23 @@ loop-at-preserved c =
     let at = c.loop-at.at in
     let b = get_or bytes at 0 in
     let line = c.loop-at.line in
-    let met = c.loop-at.met in
+    let word = c.loop-at.word in
     let inv = c.loop-at.invariant in
-    let later = difference_later line met text bytes at (omega arith) (omega arith) c.if-b-text.false in
+    let later = difference_later line word text bytes at (omega arith) (omega arith) c.if-b-text.false in
     let next : c.if-b-eq10.line ≡ line_after_byte line b = elim c.if-b-eq10.branch [
       | then-b-eq10 w ↦ w.line-is ∙ sym (line_fed b line w.if-b-eq10.true)
       | else-b-eq10 w ↦ w.line-is ∙ sym (line_same b line w.if-b-eq10.false)
     ] in
     record {
-      rest = ap (λ (n : ℕ). read_error_from n c.word_after_byte-met.result (drop (at + 1) text) (drop (at + 1) bytes)) next
+      rest = ap (λ (n : ℕ). read_error_from n c.word_after_byte-word.result (drop (at + 1) text) (drop (at + 1) bytes)) next
           ∙ ap (λ (m : FirstWordState). read_error_from (line_after_byte line b) m (drop (at + 1) text) (drop (at + 1) bytes))
-          c.word_after_byte-met.ensures ∙ sym later ∙ inv.rest;
+          c.word_after_byte-word.ensures ∙ sym later ∙ inv.rest;
       within = omega arith;
       small = elim c.if-b-eq10.branch [ then-b-eq10 w ↦ omega arith | else-b-eq10 w ↦ omega arith ];
     }
 
 pub returns : goal.returns
 returns c =
-    sym (difference_end c.loop-at.line c.loop-at.met (drop c.loop-at.at c.args.text.now) c.args.bytes.now c.loop-at.at
+    sym (difference_end c.loop-at.line c.loop-at.word (drop c.loop-at.at c.args.text.now) c.args.bytes.now c.loop-at.at
     (omega arith))
     ∙ c.loop-at.invariant.rest

@@ -12,7 +12,7 @@ use Rattle.rv_stacks.proofs.batch.count_batch_with_stacks.Goals as goal
 pub returns-clause-value : goal.returns-clause-value
 returns-clause-value g c =
     let plan = c.args.batch.now.plan.now in
-    let indices = c.args.batch.now.places.now in
+    let indices = c.args.batch.now.indices.now in
     let sum = c.run_jobs-sum.result.0 in
     subst (λ (r : Result CountTable SumError). IfOk r (IsTableWithStacks plan indices)) (sym c.into_sum.ensures ∙ c.in_ok-into_sum.was)
     (all_added plan indices sum.sum sum.failed c.in_ok-_flow._flow (rw c.in_ok-_flow.was at c.run_jobs-sum.ensures))
@@ -20,7 +20,7 @@ returns-clause-value g c =
 pub returns-in_err-into_sum-clause-error : goal.returns-in_err-into_sum-clause-error
 returns-in_err-into_sum-clause-error g c =
     let plan = c.args.batch.now.plan.now in
-    let indices = c.args.batch.now.places.now in
+    let indices = c.args.batch.now.indices.now in
     let sum = c.run_jobs-sum.result.0 in
     let is = err_from_is_err_and c.from_residual-in_err-into_sum.result c.from_residual-in_err-into_sum.ensures.1 in
     rw (is.1, is.2)
@@ -30,7 +30,7 @@ returns-in_err-into_sum-clause-error g c =
 pub returns-in_err-into_sum-clause-reasons : goal.returns-in_err-into_sum-clause-reasons
 returns-in_err-into_sum-clause-reasons g c =
     let plan = c.args.batch.now.plan.now in
-    let indices = c.args.batch.now.places.now in
+    let indices = c.args.batch.now.indices.now in
     let sum = c.run_jobs-sum.result.0 in
     let is = err_from_is_err_and c.from_residual-in_err-into_sum.result c.from_residual-in_err-into_sum.ensures.1 in
     rw (is.1, is.2)

@@ -6,7 +6,7 @@ use Rattle.rv_stacks.proofs.batch.count_batch_with_stacks.Given as goal
 abbrev pub ghosts-run_jobs : goal.ghosts-run_jobs
 ghosts-run_jobs g a =
     let batch = a.work.now.batch.now in record {
-      is_result = λ number table. IsTableWithStacks batch.plan.now (slice_index_or batch.places.now number 0 ∷ []) table;
-      jobs = length batch.places.now;
+      is_result = λ number table. IsTableWithStacks batch.plan.now (slice_index_or batch.indices.now number 0 ∷ []) table;
+      jobs = length batch.indices.now;
       group = a.crew.now.group;
     }

@@ -20,9 +20,9 @@ finish-out-requires-clause-delivered g c =
     let line = g.T.RowReporter.line c.args.output.reporter.now in
     let batch = c.args.batch.now in
     let ranges = c.as_slice.result.now in
-    let are = subst (λ (rs : List IndexRange). AreIndexRanges batch.plan.now batch.places.now rs) (sym c.as_slice.ensures.value) c.in-Ok.ensures in
+    let are = subst (λ (rs : List IndexRange). AreIndexRanges batch.plan.now batch.indices.now rs) (sym c.as_slice.ensures.value) c.in-Ok.ensures in
     let sum = c.run_jobs-recipients.result.0.first in
-    subst (IsRunDelivered (IsReportedRow line batch) (length batch.places.now) _ _) (sym c.outcome_with_sum-ran.ensures)
+    subst (IsRunDelivered (IsReportedRow line batch) (length batch.indices.now) _ _) (sym c.outcome_with_sum-ran.ensures)
     (rows_delivered line batch ranges are (λ reported. AreTablesAdded sum.sum sum.failed (map (λ (r : ReportedRange). r.table) reported)) _ _
     sum.failed c.run_jobs-recipients.result.1 c.run_jobs-recipients.ensures)
 
@@ -31,10 +31,10 @@ returns-in-Ok-Ok-clause-table g c =
     let line = g.T.RowReporter.line c.args.output.reporter.now in
     let batch = c.args.batch.now in
     let ranges = c.as_slice.result.now in
-    let are = subst (λ (rs : List IndexRange). AreIndexRanges batch.plan.now batch.places.now rs) (sym c.as_slice.ensures.value) c.in-Ok.ensures in
+    let are = subst (λ (rs : List IndexRange). AreIndexRanges batch.plan.now batch.indices.now rs) (sym c.as_slice.ensures.value) c.in-Ok.ensures in
     let sum = c.run_jobs-recipients.result.0.first in
     let ended = rw c.in-Ok-Ok.is-0 at (c.finish-out.ensures.ran (c.requires.ends.0 ∙ c.requires.all)) in
     let counted = table_counted line batch ranges are _ _ sum.sum sum.failed c.run_jobs-recipients.result.1 c.run_jobs-recipients.ensures
     (sym c.outcome_with_sum-ran.ensures ∙ ended) in
-    subst (IsTableOfJobsAt batch.plan.now batch.places.now)
+    subst (IsTableOfJobsAt batch.plan.now batch.indices.now)
     (same_table counted.0 c.in-Ok-Ok.table (sym counted.1.0 ∙ sym c.into_sum.ensures ∙ c.in-Ok-Ok.is-1)) counted.1.1

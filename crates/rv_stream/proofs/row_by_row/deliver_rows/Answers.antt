@@ -11,7 +11,7 @@ no_items (x ∷ xs) none = absurd (omega (arith, none))
 pub loop-row-init : goal.loop-row-init
 loop-row-init g c = record {
   received = λ before received. subst (g.L.Listener.has_received c.args.listener.now) (sym (append-nil before)) received;
-  goes = c.requires.goes;
+  running = c.requires.running;
   front = refl;
   left = c.into_iter-row-iterator.ensures.into_iter_gives.1 ∙ c.args.rows.ok.0
       ∙ ap length (sym c.into_iter-row-iterator.ensures.into_iter_gives.0);
@@ -26,7 +26,7 @@ loop-row-preserved g c =
       received = λ first received.
           subst (g.L.Listener.has_received c.receive.new.self) (append_assoc first before (row ∷ []))
           (c.receive.ensures.received (first ++ before) (c.loop-row.invariant.received first received));
-      goes = c.receive.ensures.goes c.in_default.is;
+      running = c.receive.ensures.running c.in_default.is;
       front = append_assoc before (row ∷ []) rest ∙ ap (λ (l : List ReportedRow). before ++ l) (sym steps) ∙ c.loop-row.invariant.front;
       left = (let was = c.loop-row.invariant.left in
           let gone = c.in-Some.ensures.steps.1 in
@@ -46,7 +46,7 @@ returns-in-Stop-clause-received g c = λ first received.
           ∙ c.into_iter-row-iterator.ensures.into_iter_gives.0;
       received = subst (g.L.Listener.has_received c.receive.new.self) (append_assoc first before (row ∷ []))
           (c.receive.ensures.received (first ++ before) (c.loop-row.invariant.received first received));
-      all = λ goes. absurd (goes (c.receive.ensures.stops c.in-Stop.is));
+      all = λ running. absurd (running (c.receive.ensures.stops c.in-Stop.is));
     }
 
 pub returns-clause-received : goal.returns-clause-received
@@ -58,5 +58,5 @@ returns-clause-received g c = λ first received.
       rest = [];
       whole = rw empty at c.loop-row.invariant.front ∙ c.into_iter-row-iterator.ensures.into_iter_gives.0;
       received = c.loop-row.invariant.received first received;
-      all = λ goes. refl;
+      all = λ running. refl;
     }

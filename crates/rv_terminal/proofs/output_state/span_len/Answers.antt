@@ -1,6 +1,6 @@
 use Rattle.std.proofs.Common.{◌∙◌, sym, ap, arith}
 use Rattle.std.proofs.lemmas.List.Sums.{fold_more}
-use Rattle.rv_terminal.specs.Colors.{is_empty, mark_before, position_after}
+use Rattle.rv_terminal.specs.Colors.{is_empty, change_before, position_after}
 use Rattle.std.specs.Prelude.{slice_index}
 use Rattle.rv_terminal.proofs.Marks.{marked_more, marked_one}
 use Rattle.rv_terminal.proofs.output_state.span_len.Goals as goal
@@ -25,6 +25,6 @@ loop-at-preserved c =
           ∙ sym (fold_more position_after c.args.position bytes at 0 c.loop-at-test.true);
       marked = marked_more c.args.position bytes at c.loop-at.invariant.least c.loop-at-test.true
           c.loop-at.invariant.marked
-          (sym (ap (λ position. is_empty (mark_before position (slice_index bytes at))) here)
-          ∙ sym (c.is_empty.ensures ∙ ap is_empty c.mark_before.ensures) ∙ c.if-is_empty.true);
+          (sym (ap (λ position. is_empty (change_before position (slice_index bytes at))) here)
+          ∙ sym (c.is_empty.ensures ∙ ap is_empty c.change_before.ensures) ∙ c.if-is_empty.true);
     }

@@ -6,11 +6,11 @@ use Rattle.rvfleet_app.proofs.RowReporter.{asked_as_read, bad_words, error_is_me
 use Rattle.rvfleet_app.specs.Responses.{is_request_rejected}
 use Rattle.rvfleet_app.proofs.program.run_words.Goals as goal
 
-pub returns-in-Ok-Some-clause-told : goal.returns-in-Ok-Some-clause-told
-returns-in-Ok-Some-clause-told g c =
+pub returns-in-Ok-Some-clause-error_reported : goal.returns-in-Ok-Some-clause-error_reported
+returns-in-Ok-Some-clause-error_reported g c =
     let read = c.in-Ok-Some in
     let words = map g.T.AsStr.text c.args.words.now in
-    rw (asked_as_read words _ _ read.ensures.kinds read.ensures.value read.field-0-is) c.respond_to_request.ensures.told
+    rw (asked_as_read words _ _ read.ensures.kinds read.ensures.value read.field-0-is) c.respond_to_request.ensures.error_reported
 
 pub returns-in-Ok-Some-clause-helped : goal.returns-in-Ok-Some-clause-helped
 returns-in-Ok-Some-clause-helped g c =
@@ -24,31 +24,31 @@ returns-in-Ok-Some-clause-unread g c =
     let words = map g.T.AsStr.text c.args.words.now in
     rw (asked_as_read words _ _ read.ensures.kinds read.ensures.value read.field-0-is) c.respond_to_request.ensures.unread
 
-pub returns-in-Ok-Some-clause-untaken : goal.returns-in-Ok-Some-clause-untaken
-returns-in-Ok-Some-clause-untaken g c =
+pub returns-in-Ok-Some-clause-input_unread : goal.returns-in-Ok-Some-clause-input_unread
+returns-in-Ok-Some-clause-input_unread g c =
     let read = c.in-Ok-Some in
     let words = map g.T.AsStr.text c.args.words.now in
-    rw (asked_as_read words _ _ read.ensures.kinds read.ensures.value read.field-0-is) c.respond_to_request.ensures.untaken
+    rw (asked_as_read words _ _ read.ensures.kinds read.ensures.value read.field-0-is) c.respond_to_request.ensures.input_unread
 
-pub returns-in-Ok-None-clause-told : goal.returns-in-Ok-None-clause-told
-returns-in-Ok-None-clause-told g c =
+pub returns-in-Ok-None-clause-error_reported : goal.returns-in-Ok-None-clause-error_reported
+returns-in-Ok-None-clause-error_reported g c =
     let read = c.in-Ok-None in
     let asked =
     asked_as_read (map g.T.AsStr.text c.args.words.now) _ _ read.ensures.kinds read.ensures.value read.field-0-is in
-    bad_words _ _ _ _ _ _ _ c.reject_arguments.ensures.status (ap is_request_rejected asked) c.reject_arguments.ensures.told
+    bad_words _ _ _ _ _ _ _ c.reject_arguments.ensures.status (ap is_request_rejected asked) c.reject_arguments.ensures.error_reported
 
-pub returns-in-Err-clause-told : goal.returns-in-Err-clause-told
-returns-in-Err-clause-told g c =
+pub returns-in-Err-clause-error_reported : goal.returns-in-Err-clause-error_reported
+returns-in-Err-clause-error_reported g c =
     let answer = c.respond_to_clap_error.ensures in
     error_told (map g.T.AsStr.text c.args.words.now) _ _ _ _ _ _ (kind_of c.in-Err.error)
-    (λ out. (answer.memory out).0) c.in-Err.ensures.kinds answer.quiet answer.refused answer.told answer.range
+    (λ out. (answer.memory out).0) c.in-Err.ensures.kinds answer.quiet answer.refused answer.error_reported answer.range
 
-pub returns-in-Err-clause-asked : goal.returns-in-Err-clause-asked
-returns-in-Err-clause-asked g c = taken_asks (map g.T.AsStr.text c.args.words.now)
+pub returns-in-Err-clause-makes_request : goal.returns-in-Err-clause-makes_request
+returns-in-Err-clause-makes_request g c = taken_asks (map g.T.AsStr.text c.args.words.now)
 
-pub returns-in-Err-clause-answers : goal.returns-in-Err-clause-answers
-returns-in-Err-clause-answers g c = λ asked.
+pub returns-in-Err-clause-response : goal.returns-in-Err-clause-response
+returns-in-Err-clause-response g c = λ asked.
     let words = map g.T.AsStr.text c.args.words.now in
-    let out = error_is_memory words (kind_of c.in-Err.error) c.in-Err.ensures.taken c.in-Err.ensures.kinds asked in
+    let out = error_is_memory words (kind_of c.in-Err.error) c.in-Err.ensures.accepted c.in-Err.ensures.kinds asked in
     let failed = c.respond_to_clap_error.ensures.memory out in
     failed_at_once _ _ _ _ _ _ failed.0 failed.1

@@ -2,8 +2,8 @@ use Rattle.std.proofs.Common.{◌≡◌, append_assoc, refl}
 use Rattle.rvfleet_app.specs.Lines.{fault_line}
 use Rattle.rvfleet_app.proofs.status.reject_list.Goals as goal
 
-pub returns-clause-told : goal.returns-clause-told
-returns-clause-told g c =
+pub returns-clause-error_reported : goal.returns-clause-error_reported
+returns-clause-error_reported g c =
     let written = c.in-Ok.ensures.ok in
     let name = c.name.ensures in
     let shown = c.as_str.ensures.value in

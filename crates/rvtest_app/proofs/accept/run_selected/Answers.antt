@@ -12,7 +12,7 @@ returns-in-Ok-clause-rows g c =
         planned = record {
           listed = found.jobs;
           paths = rw (c.as_slice-2.ensures.value, c.in_ok-indices.ensures.value, c.as_slice.ensures.value) at found.paths;
-          results_agree = rw (c.new-store.ensures.inputs, c.new-store.ensures.folder) at found.agree;
+          results_agree = rw (c.new-store.ensures.inputs, c.new-store.ensures.directory) at found.agree;
           unread_entries = ap length c.unreadable_paths.ensures ∙ rw c.new-store.ensures.nothing at found.faults;
         };
         indexed = rw (
@@ -20,7 +20,7 @@ returns-in-Ok-clause-rows g c =
           c.into_vec.ensures,
           c.in-Ok.ensures,
           c.new-batch.ensures.plan,
-          c.new-batch.ensures.places,
+          c.new-batch.ensures.indices,
           c.as_slice-4.ensures.value,
           c.in_ok-indices.ensures.value,
           c.as_slice.ensures.value,

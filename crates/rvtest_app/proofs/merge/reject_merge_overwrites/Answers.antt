@@ -12,4 +12,4 @@ pub returns-clause-inputs_preserved : goal.returns-clause-inputs_preserved
 returns-clause-inputs_preserved g c =
     let parts = rw c.as_slice.ensures.value at (rw c.in_ok-inputs_of_args.ensures at c.in_ok-inputs.ensures) in
     both_told (g.F.Outputs.committed c.args.files.now) c.reject_option_overwrite-2.result _ _
-    (c.in_ok-reject_option_overwrite.ensures.is_no_input _ parts) (c.reject_option_overwrite-2.ensures.is_no_input _ parts)
+    (c.in_ok-reject_option_overwrite.ensures.is_not_input _ parts) (c.reject_option_overwrite-2.ensures.is_not_input _ parts)

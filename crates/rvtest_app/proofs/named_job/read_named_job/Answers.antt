@@ -19,7 +19,10 @@ returns-in-Some-clause-named g c = record {
 pub returns-clause-stopped : goal.returns-clause-stopped
 returns-clause-stopped g c =
     let unknown = rw c.as_slice-in-None.ensures.value at c.unknown_name_stop.ensures in
-    inr (c.in_ok-text.text.items, (
-      c.in_ok-text.ensures.read,
-      inr (c.in_ok-jobs.jobs, (rw c.as_slice.ensures.value at c.in_ok-jobs.ensures.jobs, unknown)),
-    ))
+    inr (
+      c.in_ok-text.text.items,
+      (
+        c.in_ok-text.ensures.read,
+        inr (c.in_ok-jobs.jobs, (rw c.as_slice.ensures.value at c.in_ok-jobs.ensures.jobs, unknown)),
+      ),
+    )

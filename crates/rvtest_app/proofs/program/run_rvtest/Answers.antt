@@ -14,7 +14,7 @@ answered : (g : Over) (c : goal.Joined-drop g) → IsCarriedOut (g.D.Inputs.cont
     (g.I.Read.remaining c.args.input.now) c.args.terminals.is_out_terminal c.args.terminals.is_out_colored
     (map g.T.AsStr.text c.args.args.now) c.in-Ok.status
     (outputs_of g.F.Outputs.committed g.O.Sink.accepted g.E.Sink.accepted g.E.Sink.failure_count c.args.destinations)
-    (outputs_of g.F.Outputs.committed g.O.Sink.accepted g.E.Sink.accepted g.E.Sink.failure_count c.match-read_words.destinations.0)
+    (outputs_of g.F.Outputs.committed g.O.Sink.accepted g.E.Sink.accepted g.E.Sink.failure_count c.match-parse_args.destinations.0)
 answered g c =
     let contents = g.D.Inputs.contents c.args.host.now.inputs.now in
     let rest = g.I.Read.remaining c.args.input.now in
@@ -22,9 +22,9 @@ answered g c =
     let is_colored = c.args.terminals.is_out_colored in
     let args = map g.T.AsStr.text c.args.args.now in
     let before = outputs_of g.F.Outputs.committed g.O.Sink.accepted g.E.Sink.accepted g.E.Sink.failure_count c.args.destinations in
-    let after = outputs_of g.F.Outputs.committed g.O.Sink.accepted g.E.Sink.accepted g.E.Sink.failure_count c.match-read_words.destinations.0 in
-    let all : IfOk c.match-read_words.destinations.1 (λ status. IsCarriedOut contents rest is_terminal is_colored args status before after) =
-    elim c.match-read_words.branch [
+    let after = outputs_of g.F.Outputs.committed g.O.Sink.accepted g.E.Sink.accepted g.E.Sink.failure_count c.match-parse_args.destinations.0 in
+    let all : IfOk c.match-parse_args.destinations.1 (λ status. IsCarriedOut contents rest is_terminal is_colored args status before after) =
+    elim c.match-parse_args.branch [
       | in-Ok-Some w ↦
           (let request = rw w.in-Ok-Some.field-0-is at w.in-Ok-Some.ensures.value in
           rw w.destinations-is (IfOk-map w.run_in_colors.result.1 _ _ (λ status done. inl (w.in-Ok-Some.request, (sym request, done)))
@@ -49,7 +49,7 @@ returns-clause-ended g c =
     let contents = g.D.Inputs.contents c.args.host.now.inputs.now in
     let is_terminal = c.args.terminals.is_out_terminal in
     let args = map g.T.AsStr.text c.args.args.now in
-    let stopped : IfErr c.match-read_words.destinations.1 (IsProgramStop contents is_terminal args) = elim c.match-read_words.branch [
+    let stopped : IfErr c.match-parse_args.destinations.1 (IsProgramStop contents is_terminal args) = elim c.match-parse_args.branch [
       | in-Ok-Some w ↦
           (let request = rw w.in-Ok-Some.field-0-is at w.in-Ok-Some.ensures.value in
           rw w.destinations-is (IfErr-map w.run_in_colors.result.1 _ _ (λ stop is. inl (w.in-Ok-Some.request, (sym request, is)))
@@ -59,10 +59,10 @@ returns-clause-ended g c =
           rw w.destinations-is (words_stop contents is_terminal args _ _ _ _ w.in-Err.ensures.kinds w.in-Err.ensures.misused
           w.respond_to_args_error-outcome.ensures.stopped)
     ] in
-    let before = outputs_of g.F.Outputs.committed g.O.Sink.accepted g.E.Sink.accepted g.E.Sink.failure_count c.match-read_words.destinations.0 in
+    let before = outputs_of g.F.Outputs.committed g.O.Sink.accepted g.E.Sink.accepted g.E.Sink.failure_count c.match-parse_args.destinations.0 in
     inr (
       c.in-Err-outcome.stop,
       rw c.in-Err-outcome.is at stopped,
-      rw c.is_closed-is_out_closed.ensures at c.put_end_message-status.ensures.status,
-      (before, (refl, rw c.is_closed-is_out_closed.ensures at c.put_end_message-status.ensures.reported, refl)),
+      rw c.is_closed-is_out_closed.ensures at c.write_end_message-status.ensures.status,
+      (before, (refl, rw c.is_closed-is_out_closed.ensures at c.write_end_message-status.ensures.reported, refl)),
     )

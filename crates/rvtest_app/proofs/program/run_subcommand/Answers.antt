@@ -29,7 +29,7 @@ returns-clause-stopped g c = elim c.match-request.branch [
   | in-Console w ↦ rw (w.outcome-is, w.in-Console.is) w.put_job_console-outcome.ensures.stopped
   | in-Gdb w ↦
       rw (w.outcome-is, w.in-Gdb.is)
-      (IfErr-map w.show_job_to_gdb-outcome.result _ _ (gdb_stop _ _ _ _ _ _ _) w.show_job_to_gdb-outcome.ensures.stopped)
+      (IfErr-map w.debug_named_job-outcome.result _ _ (gdb_stop _ _ _ _ _ _ _) w.debug_named_job-outcome.ensures.stopped)
   | in-Accept w ↦ rw (w.outcome-is, w.in-Accept.is) w.accept_runs-outcome.ensures.stopped
   | in-Merge w ↦ rw (w.outcome-is, w.in-Merge.is) w.merge_reports-outcome.ensures.stopped
   | in-Diff w ↦
@@ -53,8 +53,8 @@ returns-clause-out_unchanged g c = elim c.match-request.branch [
   | in-Console w ↦ rw (w.outcome-is, w.in-Console.is) (IfOk-from w.put_job_console-outcome.result _ (inl (inl refl)))
   | in-Gdb w ↦
       rw (w.outcome-is, w.in-Gdb.is)
-      (IfOk-map w.show_job_to_gdb-outcome.result _ _ (λ status done. inl (inr (done.is_no_terminal, (cause.ReplyWriteFailed, refl))))
-      w.show_job_to_gdb-outcome.ensures.served)
+      (IfOk-map w.debug_named_job-outcome.result _ _ (λ status done. inl (inr (done.is_not_terminal, (cause.ReplyWriteFailed, refl))))
+      w.debug_named_job-outcome.ensures.served)
   | in-Accept w ↦
       rw (w.outcome-is, w.in-Accept.is)
       (IfOk-map w.accept_runs-outcome.result _ _ (λ status done. inl (unshown_accept _ c.args.terminals.is_out_terminal _ status _ _ done))

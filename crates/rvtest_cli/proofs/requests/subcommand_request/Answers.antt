@@ -2,7 +2,7 @@ use Rattle.std.proofs.Common.{refl}
 use Rattle.rvtest_cli.proofs.requests.subcommand_request.Goals as goal
 
 pub returns-in-run : goal.returns-in-run
-returns-in-run c = rw c.in-run.is c.rvtest_run_request.ensures
+returns-in-run c = rw c.in-run.is c.run_request.ensures
 
 pub returns-in-explain : goal.returns-in-explain
 returns-in-explain c = rw c.in-explain.is c.explain_request.ensures

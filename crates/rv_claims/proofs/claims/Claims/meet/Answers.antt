@@ -9,7 +9,7 @@ use Rattle.rv_claims.proofs.claims.Claims.meet.Goals as goal
 
 pub load-requires : goal.load-requires
 load-requires c =
-    let all = ap (λ (h : PassView). h.draw) (c.all.view_is ∙ c.join-all.ensures) ∙ sym c.self.view_is in
+    let all = ap (λ (h : PassView). h.counter) (c.all.view_is ∙ c.join-all.ensures) ∙ sym c.self.view_is in
     (ap (λ (d : CounterView). d.table) all, omega (arith, c.self.invariant.1), looks _ _ _ _)
 
 pub unreachable-requires : goal.unreachable-requires
@@ -23,13 +23,13 @@ unreachable-requires c =
 
 pub split_seat-note-requires : goal.split_seat-note-requires
 split_seat-note-requires c =
-    let one = ap (λ (h : PassView). h.draw) c.first.view_is ∙ (c.requires.first ∙ sym c.self.view_is) in
+    let one = ap (λ (h : PassView). h.counter) c.first.view_is ∙ (c.requires.first ∙ sym c.self.view_is) in
     (ap (λ (d : CounterView). d.table) one, omega (arith, c.self.invariant.1), notes _ _ _)
 
 pub join_seat-requires : goal.join_seat-requires
 join_seat-requires c =
-    let one = ap (λ (h : PassView). h.draw) c.first.view_is ∙ (c.requires.first ∙ sym c.self.view_is) in
-    let two = ap (λ (h : PassView). h.draw) c.second.view_is ∙ (c.requires.second ∙ sym c.self.view_is) in (
+    let one = ap (λ (h : PassView). h.counter) c.first.view_is ∙ (c.requires.first ∙ sym c.self.view_is) in
+    let two = ap (λ (h : PassView). h.counter) c.second.view_is ∙ (c.requires.second ∙ sym c.self.view_is) in (
       ap (λ (d : CounterView). d.table) two,
       c.split_seat-note.ensures.3 ∙ ap (λ (d : CounterView). d.table) one,
       ap (λ (m : SeatState). m.1) c.split_seat-note.ensures.4,
@@ -39,7 +39,7 @@ join_seat-requires c =
 
 pub load-requires-2 : goal.load-requires-2
 load-requires-2 c =
-    let two = ap (λ (h : PassView). h.draw) c.second.view_is ∙ (c.requires.second ∙ sym c.self.view_is) in
+    let two = ap (λ (h : PassView). h.counter) c.second.view_is ∙ (c.requires.second ∙ sym c.self.view_is) in
     (c.join_seat.ensures.0 ∙ ap (λ (d : CounterView). d.table) two, omega (arith, c.self.invariant.1), looks _ _ _ _)
 
 pub invariant_of-first : goal.invariant_of-first

@@ -7,7 +7,7 @@ use Rattle.rv_claims.proofs.claims.Claims.split.Goals as goal
 
 pub split_seat-seat-requires : goal.split_seat-seat-requires
 split_seat-seat-requires c =
-    let one = ap (λ (h : PassView). h.draw) c.pass.view_is ∙ (c.requires ∙ sym c.self.view_is) in
+    let one = ap (λ (h : PassView). h.counter) c.pass.view_is ∙ (c.requires ∙ sym c.self.view_is) in
     (ap (λ (d : CounterView). d.table) one, omega (arith, c.self.invariant.1), frees _ _ _)
 
 pub invariant_of-pass : goal.invariant_of-pass

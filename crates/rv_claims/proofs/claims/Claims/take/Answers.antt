@@ -7,7 +7,7 @@ use Rattle.rv_claims.proofs.claims.Claims.take.Goals as goal
 
 pub fetch_add-number-requires : goal.fetch_add-number-requires
 fetch_add-number-requires c =
-    let same = ap (λ (h : PassView). h.draw) c.pass.view_is ∙ (c.requires ∙ sym c.self.view_is) in
+    let same = ap (λ (h : PassView). h.counter) c.pass.view_is ∙ (c.requires ∙ sym c.self.view_is) in
     let v = c.pass.inside.seat.me.0 in
     let key = ap (λ (d : CounterView). d.pieces) same ∙ sym c.self.invariant.0 in (
       ap (λ (d : CounterView). d.table) same,
@@ -21,7 +21,7 @@ fetch_add-number-requires c =
 pub invariant_of-pass : goal.invariant_of-pass
 invariant_of-pass c =
     let same = ap (λ (d : CounterView). d.pieces)
-    (ap (λ (h : PassView). h.draw) c.pass.view_is ∙ (c.requires ∙ sym c.self.view_is)) in
+    (ap (λ (h : PassView). h.counter) c.pass.view_is ∙ (c.requires ∙ sym c.self.view_is)) in
     let v = c.pass.inside.seat.me.0 in
     drew_pass _ _ _ _ _ _ c.pass.invariant c.fetch_add-number.ensures.2
     (c.if-pass.false ∙ goes_on _ v.draws (entry (first_pass_index v.pass_indices) c.fetch_add-number.result)
@@ -30,7 +30,7 @@ invariant_of-pass c =
 pub invariant_of-pass-else-number-self : goal.invariant_of-pass-else-number-self
 invariant_of-pass-else-number-self c =
     let same = ap (λ (d : CounterView). d.pieces)
-    (ap (λ (h : PassView). h.draw) c.pass.view_is ∙ (c.requires ∙ sym c.self.view_is)) in
+    (ap (λ (h : PassView). h.counter) c.pass.view_is ∙ (c.requires ∙ sym c.self.view_is)) in
     let v = c.pass.inside.seat.me.0 in
     drew_pass _ _ _ _ _ _ c.pass.invariant c.fetch_add-number.ensures.2
     (ends_now _ v.draws (entry (first_pass_index v.pass_indices) c.fetch_add-number.result)
@@ -58,10 +58,10 @@ returns-else-number-self-clause-drawn c _ = (
 
 pub returns-then-number-self-clause-draw : goal.returns-then-number-self-clause-draw
 returns-then-number-self-clause-draw c =
-    ap (λ (h : PassView). h.draw) (seen_drew _ _ _ _ _ c.fetch_add-number.ensures.0 c.fetch_add-number.ensures.2
+    ap (λ (h : PassView). h.counter) (seen_drew _ _ _ _ _ c.fetch_add-number.ensures.0 c.fetch_add-number.ensures.2
     ∙ ap (λ (h : PassView). with_draw h c.fetch_add-number.result) c.pass.view_is) ∙ c.requires
 
 pub returns-else-number-self-clause-draw : goal.returns-else-number-self-clause-draw
 returns-else-number-self-clause-draw c =
-    ap (λ (h : PassView). h.draw) (seen_drew _ _ _ _ _ c.fetch_add-number.ensures.0 c.fetch_add-number.ensures.2
+    ap (λ (h : PassView). h.counter) (seen_drew _ _ _ _ _ c.fetch_add-number.ensures.0 c.fetch_add-number.ensures.2
     ∙ ap (λ (h : PassView). with_draw h c.fetch_add-number.result) c.pass.view_is) ∙ c.requires

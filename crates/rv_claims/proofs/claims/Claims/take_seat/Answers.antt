@@ -7,11 +7,11 @@ use Rattle.rv_claims.proofs.claims.Claims.take_seat.Goals as goal
 pub swap-requires : goal.swap-requires
 swap-requires c =
     let table = ap (λ (d : CounterView). d.table) c.self.view_is in (
-      c.loop-place.invariant.0 ∙ sym table,
+      c.loop-index.invariant.0 ∙ sym table,
       omega (arith, c.self.invariant.1),
-      sits _ _ _ _ c.loop-place.place _ (omega arith) refl,
+      sits _ _ _ _ c.loop-index.index _ (omega arith) refl,
     )
 
 pub invariant_of-result : goal.invariant_of-result
 invariant_of-result c = seated_pass _ _ _ _ (omega arith) refl
-    (sat_there _ _ _ c.loop-place.place _ refl c.loop-place.invariant.1 c.if-swap-eq0.true c.swap.ensures.2)
+    (sat_there _ _ _ c.loop-index.index _ refl c.loop-index.invariant.1 c.if-swap-eq0.true c.swap.ensures.2)

@@ -2,4 +2,4 @@ use Rattle.std.proofs.Common.{◌≡◌}
 use Rattle.rv_fleet_tests.proofs.tests.draws.push_responses.Given as goal
 
 abbrev pub invariant-loop-request : goal.invariant-loop-request
-invariant-loop-request l = l.pass.draw ≡ l.claims
+invariant-loop-request l = l.pass.counter ≡ l.claims

@@ -1,6 +1,6 @@
 use Rattle.std.proofs.Common.{ℕ, arith, subst}
 use Rattle.rv_trace.specs.Machine.{state_of}
-use Rattle.rv_history.specs.Places.{IsReached}
+use Rattle.rv_history.specs.RunSteps.{IsReached}
 use Rattle.rv_history.proofs.Reaching.{comes, within_budget}
 use Rattle.rv_history.proofs.history.History.finish_search.Goals as goal
 

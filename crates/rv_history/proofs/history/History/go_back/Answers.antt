@@ -1,7 +1,7 @@
 use Rattle.std.proofs.Common.{◌≤◌, arith, subst}
 use Rattle.rv_trace.specs.State.{State}
 use Rattle.rv_history.specs.Moves.{IsStopBefore}
-use Rattle.rv_history.specs.Places.{last_step}
+use Rattle.rv_history.specs.RunSteps.{last_step}
 use Rattle.rv_history.specs.Positions.{Position}
 use Rattle.rv_history.specs.declared.outcome.MoveResult.TheVariants as outcome
 use Rattle.rv_history.proofs.Arriving.{arrived}

@@ -1,6 +1,6 @@
 use Rattle.std.proofs.Common.{◌≤◌, arith}
 use Rattle.rv_history.specs.Moves.{IsStepBack}
-use Rattle.rv_history.specs.Places.{last_step}
+use Rattle.rv_history.specs.RunSteps.{last_step}
 use Rattle.rv_history.proofs.Arriving.{arrived}
 use Rattle.rv_history.proofs.Backward.{back_within}
 use Rattle.rv_history.proofs.Reaching.{comes_within}

@@ -1,6 +1,6 @@
 use Rattle.std.proofs.Common.{◌∙◌, ◌<◌, arith}
 use Rattle.rv_trace.specs.Machine.{state_of}
-use Rattle.rv_history.specs.Places.{IsReached}
+use Rattle.rv_history.specs.RunSteps.{IsReached}
 use Rattle.rv_history.proofs.Forward.{step_by_budget, step_changes, step_done, step_ends}
 use Rattle.rv_history.proofs.Reaching.{next_place}
 use Rattle.rv_history.proofs.history.History.step_forward.Goals as goal

@@ -13,18 +13,18 @@ use Rattle.rv_jobs.proofs.Answering.{with_path-old, not_placed, paths-with, stil
 use Rattle.rv_jobs.proofs.Answering.{asked_kept, asked_faults}
 use Rattle.rv_jobs.proofs.path_results.PathResults.read_path_once.Goals as goal
 
-pub invariant_of-asked : goal.invariant_of-asked
-invariant_of-asked g c =
+pub invariant_of-path_results : goal.invariant_of-path_results
+invariant_of-path_results g c =
     let p = c.args.path.now in
     record {
       same_length = c.self.invariant.same_length;
       indices = λ t.
           places_back (λ q. get_by (λ k. bytes_eq q k.now) c.self.inside.indices)
           (λ q. get_by (λ k. bytes_eq q k.now) c.insert.new.self)
-          (λ q. get_by (λ k. bytes_eq q k.now) c.insert-in-Some.new.self) p c.len-next.result c.in-Some.place
-          (hash_map_updates_str p c.self.inside.indices c.insert.new.self _ c.in_ok-place.ensures.updates)
+          (λ q. get_by (λ k. bytes_eq q k.now) c.insert-in-Some.new.self) p c.len-next.result c.in-Some.index
+          (hash_map_updates_str p c.self.inside.indices c.insert.new.self _ c.in_ok-index.ensures.updates)
           (hash_map_updates_str p c.insert.new.self c.insert-in-Some.new.self _ c.in_ok-insert.ensures.updates)
-          (sym c.in_ok-place.ensures.old ∙ c.in-Some.is) t
+          (sym c.in_ok-index.ensures.old ∙ c.in-Some.is) t
           ∙ c.self.invariant.indices t;
     }
 
@@ -32,7 +32,7 @@ pub returns-in-Some-clause-index : goal.returns-in-Some-clause-index
 returns-in-Some-clause-index g c =
     ap (λ l. index_in l c.args.path.now)
     (paths-with (paths_in c.self.inside) c.self.inside.results.items c.self.invariant.same_length)
-    ∙ sym (c.self.invariant.indices c.args.path.now) ∙ sym c.in_ok-place.ensures.old ∙ c.in-Some.is
+    ∙ sym (c.self.invariant.indices c.args.path.now) ∙ sym c.in_ok-index.ensures.old ∙ c.in-Some.is
 
 pub returns-in-Some-clause-paths : goal.returns-in-Some-clause-paths
 returns-in-Some-clause-paths g c =
@@ -40,12 +40,12 @@ returns-in-Some-clause-paths g c =
     with_path-old xs c.args.path.now (ap is_some (returns-in-Some-clause-index g c))
     ∙ ap (λ (a : List PathResult). with_path (paths_of a) c.args.path.now) c.self.view_is
 
-pub invariant_of-asked-2 : goal.invariant_of-asked-2
-invariant_of-asked-2 g c =
+pub invariant_of-path_results-2 : goal.invariant_of-path_results-2
+invariant_of-path_results-2 g c =
     let ps = paths_in c.self.inside in
     let ks = c.self.inside.results.items in
     let p = c.args.path.now in
-    let none = not_placed ps p c.in_ok-place.field-0 _ (c.self.invariant.indices p) c.in_ok-place.ensures.old
+    let none = not_placed ps p c.in_ok-index.field-0 _ (c.self.invariant.indices p) c.in_ok-index.ensures.old
     c.in_default.not-Some in
     let pathed = ap (map (λ (q : Bor (List ℕ)). q.now)) c.in_ok-push-2.ensures.items
     ∙ map-append (λ (q : Bor (List ℕ)). q.now) c.self.inside.paths.items (c.args.path ∷ []) in
@@ -56,7 +56,7 @@ invariant_of-asked-2 g c =
           (λ q. get_by (λ k. bytes_eq q k.now) c.insert.new.self) ps
           (map (λ (q : Bor (List ℕ)). q.now) c.push-2.new.self.items) p
           c.len-next.result (hash_map_updates_str p c.self.inside.indices c.insert.new.self _
-          c.in_ok-place.ensures.updates)
+          c.in_ok-index.ensures.updates)
           (c.len-next.ensures ∙ c.self.inside.results.ok.0 ∙ sym c.self.invariant.same_length) c.self.invariant.indices none
           pathed;
     }
@@ -65,7 +65,7 @@ pub returns-clause-paths : goal.returns-clause-paths
 returns-clause-paths g c =
     let ps = paths_in c.self.inside in
     let p = c.args.path.now in
-    let none = not_placed ps p c.in_ok-place.field-0 _ (c.self.invariant.indices p) c.in_ok-place.ensures.old
+    let none = not_placed ps p c.in_ok-index.field-0 _ (c.self.invariant.indices p) c.in_ok-index.ensures.old
     c.in_default.not-Some in
     let pathed = ap (map (λ (q : Bor (List ℕ)). q.now)) c.in_ok-push-2.ensures.items
     ∙ map-append (λ (q : Bor (List ℕ)). q.now) c.self.inside.paths.items (c.args.path ∷ []) in
@@ -77,7 +77,7 @@ pub returns-clause-index : goal.returns-clause-index
 returns-clause-index g c =
     let ps = paths_in c.self.inside in
     let p = c.args.path.now in
-    let none = not_placed ps p c.in_ok-place.field-0 _ (c.self.invariant.indices p) c.in_ok-place.ensures.old
+    let none = not_placed ps p c.in_ok-index.field-0 _ (c.self.invariant.indices p) c.in_ok-index.ensures.old
     c.in_default.not-Some in
     let pathed = ap (map (λ (q : Bor (List ℕ)). q.now)) c.in_ok-push-2.ensures.items
     ∙ map-append (λ (q : Bor (List ℕ)). q.now) c.self.inside.paths.items (c.args.path ∷ []) in

@@ -4,7 +4,7 @@ use Rattle.rv_lists.specs.Jobs.{IsValidJobAt}
 use Rattle.rv_base.specs.Limits.{max_jobs}
 use Rattle.rv_lists.specs.JobList.{names_of_jobs}
 use Rattle.rv_base.specs.Names.{index_in}
-use Rattle.rv_lists.proofs.JobPlaces.{jobs_more, names_more}
+use Rattle.rv_lists.proofs.JobIndices.{jobs_more, names_more}
 use Rattle.rv_lists.proofs.earlier_jobs.EarlierJobs.append_job.Goals as goal
 
 pub invariant_of-result : goal.invariant_of-result
@@ -16,8 +16,8 @@ invariant_of-result c =
     record {
       jobs = jobs_more c.self.inside.jobs.items c.push.new.self.items c.args.job c.self.invariant.jobs good room
           c.in_ok-push.ensures.items;
-      places = names_more c.self.inside.places c.insert.new.self c.self.inside.jobs.items c.push.new.self.items
+      indices = names_more c.self.inside.indices c.insert.new.self c.self.inside.jobs.items c.push.new.self.items
           c.args.job c.in_ok-name.name c.len.result c.in_ok-insert.ensures.updates
           (c.in_ok-name.ensures.ok ∙ c.as_str.ensures) (c.len.ensures ∙ c.self.inside.jobs.ok.0)
-          c.self.invariant.places fresh c.in_ok-push.ensures.items;
+          c.self.invariant.indices fresh c.in_ok-push.ensures.items;
     }

@@ -2,7 +2,7 @@
 use Rattle.std.proofs.Common.{◌≡◌, ◌≤◌, ◌<◌, ◌∙◌, ◌∷◌, ◌++◌, [], map, take, get_or, ap, sym, subst, arith, length}
 use Rattle.std.proofs.lemmas.List.{get_or_read, map-append, take_all, take_more}
 use Rattle.rv_lists.specs.Jobs.{AreValidJobs, without_expectations}
-use Rattle.rv_lists.proofs.JobPlaces.{jobs_changed}
+use Rattle.rv_lists.proofs.JobIndices.{jobs_changed}
 use Rattle.rv_lists.proofs.job.JobList.copy_without_expectations.Goals as goal
 
 pub loop-at-preserved : goal.loop-at-preserved

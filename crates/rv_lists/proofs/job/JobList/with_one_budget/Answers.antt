@@ -3,7 +3,7 @@ use Rattle.std.proofs.lemmas.List.{append-nil, take_all}
 use Rattle.std.proofs.lemmas.List.Edits.{map_over_more}
 use Rattle.std.proofs.Math.ListN.{drop_of_length-le}
 use Rattle.rv_lists.specs.Jobs.{AreValidJobs, job_with_budget}
-use Rattle.rv_lists.proofs.JobPlaces.{jobs_changed}
+use Rattle.rv_lists.proofs.JobIndices.{jobs_changed}
 use Rattle.rv_lists.proofs.job.JobList.with_one_budget.Goals as goal
 
 pub loop-at-preserved : goal.loop-at-preserved

@@ -7,11 +7,11 @@ use Rattle.rv_memory.proofs.bus.Bus.is_stored.Goals as goal
 pub returns-in-Some : goal.returns-in-Some
 returns-in-Some c =
     let s = c.self.inside in
-    let place = c.in-Some.place in
+    let place = c.in-Some.range in
     let is_index = c.in-Some.ensures in
-    let there = stands s.map c.args.addr 1 place.at 0 c.args.addr place.at place.writable is_index
+    let there = stands s.map c.args.addr 1 place.start 0 c.args.addr place.start place.writable is_index
     (omega arith) (omega arith) (omega arith) in
-    let mark = get_or_read s.marks.items place.at c.index.result.now
+    let mark = get_or_read s.marks.items place.start c.index.result.now
     (omega (arith, is_index.within, c.self.invariant.marks)) c.index.ensures 0 in
     rw (← c.self.view_is)
     (ap (λ m. eqb m s.generation) (mark ∙ ap (λ i. get_or s.marks.items i 0) (sym there.1))

@@ -7,11 +7,11 @@ invariant_of-result c = record {
   map = search rules;
   bytes = search rules;
   marks = search rules;
-  older = λ k. let below = c.next_generation-marks.ensures.older k in omega arith;
+  newest_mark = λ k. let below = c.next_generation-marks.ensures.older k in omega arith;
   generation = let below = c.next_generation-marks.ensures.older 0 in omega arith;
   script_position = search rules;
   script_fits = search rules;
-  room = search rules;
+  buffer_capacity = search rules;
   output_fits = search rules;
 }
 

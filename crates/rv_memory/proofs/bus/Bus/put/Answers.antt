@@ -21,19 +21,19 @@ invariant_of-self c =
     let s = c.self.inside in
     let bytes = with_items_is s.bytes c.write_value.new.bytes
     (omega (arith, c.write_value.auto.bytes, c.deref_mut.ensures.len)) ∙ c.write_value.ensures
-    ∙ ap (λ x. with_value_at x c.args.range.at c.args.width c.args.value) c.deref_mut.ensures.value in
+    ∙ ap (λ x. with_value_at x c.args.range.start c.args.width c.args.value) c.deref_mut.ensures.value in
     let marks = with_items_is s.marks c.mark.new.marks
     (omega (arith, c.mark.auto.marks, c.deref_mut-2.ensures.len)) ∙ c.mark.ensures
-    ∙ ap (λ x. with_marks_at x c.args.range.at c.args.width s.generation) c.deref_mut-2.ensures.value in
+    ∙ ap (λ x. with_marks_at x c.args.range.start c.args.width s.generation) c.deref_mut-2.ensures.value in
     record {
       map = c.self.invariant.map;
       bytes = ap length bytes ∙ length-with_value_at _ _ _ _ ∙ c.self.invariant.bytes;
       marks = ap length marks ∙ length-with_marks_at _ _ _ _ ∙ c.self.invariant.marks;
-      older = rw marks (older-with_marks_at _ _ _ _ c.self.invariant.older);
+      newest_mark = rw marks (older-with_marks_at _ _ _ _ c.self.invariant.newest_mark);
       generation = c.self.invariant.generation;
       script_position = c.self.invariant.script_position;
       script_fits = c.self.invariant.script_fits;
-      room = c.self.invariant.room;
+      buffer_capacity = c.self.invariant.buffer_capacity;
       output_fits = c.self.invariant.output_fits;
     }
 
@@ -41,7 +41,7 @@ pub returns : goal.returns
 returns c =
     let s = c.self.inside in
     let d = contents_of s in
-    let at = c.args.range.at in
+    let at = c.args.range.start in
     let w = c.args.width in
     let place = subst (λ (x : BusContents). IsStoredAt x.regions c.args.addr (size_of w) at c.args.range.writable)
     (sym c.self.view_is) c.requires in

@@ -1,4 +1,4 @@
-use Rattle.rv_history.specs.Places.{last_step}
+use Rattle.rv_history.specs.RunSteps.{last_step}
 use Rattle.rv_session.proofs.Sought.{went_to_start}
 use Rattle.rv_session.proofs.session.Session.go_to_start.Goals as goal
 

@@ -1,6 +1,6 @@
 use Rattle.std.proofs.Common.{◌∙◌, Bool, ap}
 use Rattle.std.proofs.lemmas.Result.{IfOk-weaker}
-use Rattle.rv_history.specs.Places.{last_step}
+use Rattle.rv_history.specs.RunSteps.{last_step}
 use Rattle.rv_gdb_protocol.specs.declared.request.Refusal.TheVariants as refusal
 use Rattle.rv_session.specs.Replies.{ok_if}
 use Rattle.rv_session.proofs.Sought.{granted_is, sought_where}

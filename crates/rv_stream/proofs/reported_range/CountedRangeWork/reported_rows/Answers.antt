@@ -39,10 +39,10 @@ loop-row-preserved g c =
     let lt : length before < length c.args.rows.items = omega (arith, long) in
     let here : get_or c.args.rows.items (length before) row ≡ row =
     ap (λ (l : List Row). get_or l (length before) row) (sym whole) ∙ get_or-append_seam before row rest row in
-    let made : ReportedRow = record { index = get_or batch.places.now c.loop-row.number 0; row = row; text = c.push_row_text.new.text } in
+    let made : ReportedRow = record { index = get_or batch.indices.now c.loop-row.number 0; row = row; text = c.push_row_text.new.text } in
     let more = one_reported line batch range (length before) c.loop-row.reported.items made c.loop-row.invariant.reported
     (record {
-      index = ap (λ (n : ℕ). get_or batch.places.now n 0) number;
+      index = ap (λ (n : ℕ). get_or batch.indices.now n 0) number;
       row = row_in_range line batch range c.args.rows.items (length before) row c.requires.within lt c.requires.rows here;
       text = c.in_ok-push_row_text.ensures ∙ ap (λ (l : List ℕ). l ++ line made.index row) c.new-text.ensures.items;
     }) in record {

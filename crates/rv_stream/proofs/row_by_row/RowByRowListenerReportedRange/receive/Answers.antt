@@ -6,4 +6,4 @@ pub returns-clause-received : goal.returns-clause-received
 returns-clause-received g c = λ ranges received.
     received_range (g.L.Listener.has_received c.args.self.now.listener) (g.L.Listener.has_received c.deliver_rows.new.listener)
     (g.L.Listener.stops c.args.self.now.listener) (g.L.Listener.stops c.deliver_rows.new.listener) ranges c.args.output
-    c.requires.goes received c.deliver_rows.ensures.received
+    c.requires.running received c.deliver_rows.ensures.received

@@ -20,7 +20,7 @@ returns-then-eq-clause-received g c = λ results received.
       subst (λ (rows : List Row). AreRowsUpToFailure most judging c.failures_left_after_row-self.result c.push_row-self.result c.push_row-self.new.rows.items rows)
           (sym (map-append (λ (t : ReportedRow). t.row) results (c.args.output ∷ [])))
           (one_row_more most judging s.failures_left c.failures_left_after_row-self.result s.allocation_failed c.push_row-self.result s.rows.items c.push_row-self.new.rows.items
-          (rows_of_reported results) row received.1 (λ none. c.requires.goes (inl none)) (false_from_ne_true _ (λ yes. c.requires.goes (inr yes)))
+          (rows_of_reported results) row received.1 (λ none. c.requires.running (inl none)) (false_from_ne_true _ (λ yes. c.requires.running (inr yes)))
           (c.failures_left_after_row-self.ensures
           ∙ ap (λ (b : Bool). if b then option_map (λ (n : ℕ). n - 1) s.failures_left else s.failures_left)
           (c.fails-failed.ensures ∙ ap (λ (j : JudgeView). fails j row) received.0))
@@ -37,7 +37,7 @@ returns-clause-received g c = λ results received.
       subst (λ (rows : List Row). AreRowsUpToFailure most judging c.failures_left_after_row-self.result c.push_row-self.result c.push_row-self.new.rows.items rows)
           (sym (map-append (λ (t : ReportedRow). t.row) results (c.args.output ∷ [])))
           (one_row_more most judging s.failures_left c.failures_left_after_row-self.result s.allocation_failed c.push_row-self.result s.rows.items c.push_row-self.new.rows.items
-          (rows_of_reported results) row received.1 (λ none. c.requires.goes (inl none)) (false_from_ne_true _ (λ yes. c.requires.goes (inr yes)))
+          (rows_of_reported results) row received.1 (λ none. c.requires.running (inl none)) (false_from_ne_true _ (λ yes. c.requires.running (inr yes)))
           (c.failures_left_after_row-self.ensures
           ∙ ap (λ (b : Bool). if b then option_map (λ (n : ℕ). n - 1) s.failures_left else s.failures_left)
           (c.fails-failed.ensures ∙ ap (λ (j : JudgeView). fails j row) received.0))

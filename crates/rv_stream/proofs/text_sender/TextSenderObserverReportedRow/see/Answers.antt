@@ -16,7 +16,7 @@ returns-in-Ok-clause-seen g c = λ results sent.
     (texts_more results made)
     (one_waits g.J.StreamSpec.accepted_before (g.W.Sink.accepted s.out) g.J.StreamSpec.failure_count (g.W.Sink.failure_count s.out)
     s.buffered.items (concat (texts_of_reported results)) s.failed made.text.items c.extend_from_slice.new.self.items
-    (none_failed s.failed c.requires.goes) (c.in-Ok.ensures.items ∙ ap (λ (l : List ℕ). s.buffered.items ++ l) c.as_slice.ensures.value) sent)
+    (none_failed s.failed c.requires.running) (c.in-Ok.ensures.items ∙ ap (λ (l : List ℕ). s.buffered.items ++ l) c.as_slice.ensures.value) sent)
 
 pub returns-in-Err-clause-seen : goal.returns-in-Err-clause-seen
 returns-in-Err-clause-seen g c = λ results sent.
@@ -27,4 +27,4 @@ returns-in-Err-clause-seen g c = λ results sent.
     (texts_more results made)
     (one_lacks g.J.StreamSpec.accepted_before (g.W.Sink.accepted s.out) g.J.StreamSpec.failure_count (g.W.Sink.failure_count s.out)
     s.buffered.items (concat (texts_of_reported results)) s.failed made.text.items s.buffered.items
-    (none_failed s.failed c.requires.goes) sent)
+    (none_failed s.failed c.requires.running) sent)

@@ -18,26 +18,26 @@ use Rattle.rvtest_app.specs.IntoReports.{report_row_text}
 use Rattle.rvtest_app.specs.Runs.{run_rows}
 use Rattle.rvtest_app.proofs.run.ListRun.run_and_show.Goals as goal
 
-pub stream_rows-stream-requires-clause-goes : goal.stream_rows-stream-requires-clause-goes
-stream_rows-stream-requires-clause-goes g c κs within =
-    goes_on (λ box. box.failed) c.new-sender.result.outbox c.new-sender.ensures.goes
+pub stream_rows-stream-requires-clause-running : goal.stream_rows-stream-requires-clause-running
+stream_rows-stream-requires-clause-running g c κs within =
+    goes_on (λ box. box.failed) c.new-sender.result.outbox c.new-sender.ensures.no_failure
 
 pub run_if_written-ran-requires : goal.run_if_written-ran-requires
 run_if_written-ran-requires g c =
     unsent (λ box. box.failed) c.stream_rows-stream.result.2 c.finish-sink.result.1 c.stream_rows-stream.result.1.first.outbox
-    c.stream_rows-stream.ensures.stopped c.finish-sink.ensures.goes
+    c.stream_rows-stream.ensures.stopped c.finish-sink.ensures.no_failure
 
 pub returns-clause-rows : goal.returns-clause-rows
 returns-clause-rows g c =
     ran_on c.write_totals_line-ran.result c.run_if_written-ran.result _ c.write_totals_line-ran.ensures.run
     (ran_on c.run_if_written-ran.result c.stream_rows-stream.result.2 _ c.run_if_written-ran.ensures.run
-    (rw (c.new-batch.ensures.plan, c.new-batch.ensures.places) at c.stream_rows-stream.ensures.rows))
+    (rw (c.new-batch.ensures.plan, c.new-batch.ensures.indices) at c.stream_rows-stream.ensures.rows))
 
 pub returns-clause-row_count : goal.returns-clause-row_count
 returns-clause-row_count g c =
     ran_on c.write_totals_line-ran.result c.run_if_written-ran.result _ c.write_totals_line-ran.ensures.run
     (ran_on c.run_if_written-ran.result c.stream_rows-stream.result.2 _ c.run_if_written-ran.ensures.run
-    (rw c.new-batch.ensures.places at c.stream_rows-stream.ensures.few))
+    (rw c.new-batch.ensures.indices at c.stream_rows-stream.ensures.few))
 
 pub returns-clause-shown : goal.returns-clause-shown
 returns-clause-shown g c =
@@ -47,9 +47,9 @@ returns-clause-shown g c =
     let judging = judge_view planned.reporter.now.judge in
     let taken = g.W.Sink.accepted in
     let all = run_rows c.args.self.now.args.now.stop_after judging plan indices in
-    let texts = rw (c.new-batch.ensures.plan, c.new-batch.ensures.places, c.new-out.ensures.sink, c.new-counting.ensures)
+    let texts = rw (c.new-batch.ensures.plan, c.new-batch.ensures.indices, c.new-out.ensures.sink, c.new-counting.ensures)
     at c.stream_rows-stream.ensures.all in
-    let line = rw (c.new-batch.ensures.plan, c.new-batch.ensures.places) at c.write_totals_line-ran.ensures.line in
+    let line = rw (c.new-batch.ensures.plan, c.new-batch.ensures.indices) at c.write_totals_line-ran.ensures.line in
     rw c.into_inner-stream.ensures
     (shown_whole c.write_totals_line-ran.result (λ run. run.rows) (taken c.args.display.stream) (taken c.stream_rows-stream.result.0.sink)
     (taken c.write_totals_line-ran.new.out.sink) (joined_row_texts (row_lines_at (reporter_of planned.reporter.now)) indices all)
@@ -76,7 +76,7 @@ returns-clause-report_written g c =
     let line = report_row_text c.args.rows.now.is_streaming in
     let text = joined_row_texts line indices all in
     let sender = c.stream_rows-stream.result.1.first in
-    let seen = rw (c.new-batch.ensures.plan, c.new-batch.ensures.places) at c.stream_rows-stream.ensures.seen in
+    let seen = rw (c.new-batch.ensures.plan, c.new-batch.ensures.indices) at c.stream_rows-stream.ensures.seen in
     done_on c.write_totals_line-ran.result c.run_if_written-ran.result _ c.write_totals_line-ran.ensures.run
     (sent_on c.run_if_written-ran.result c.stream_rows-stream.result.2 c.finish-sink.result.1 _ _
     c.run_if_written-ran.ensures.run c.run_if_written-ran.ensures.sent seen
@@ -105,7 +105,7 @@ returns-clause-texts g c =
     let all = run_rows c.args.self.now.args.now.stop_after judging planned.reporter.now.plan.now indices in
     let kept = c.stream_rows-stream.result.1.second in
     let lines = failure_lines (reporter_of planned.reporter.now) in
-    let seen = rw (c.new-batch.ensures.plan, c.new-batch.ensures.places, c.new-counting.ensures) at c.stream_rows-stream.ensures.seen in
+    let seen = rw (c.new-batch.ensures.plan, c.new-batch.ensures.indices, c.new-counting.ensures) at c.stream_rows-stream.ensures.seen in
     rw c.into_texts-texts.ensures.items
     (known_on c.write_totals_line-ran.result c.run_if_written-ran.result _ (λ run. run.rows) (λ rows. AreLinesOf lines indices rows kept.texts.items) all
     c.write_totals_line-ran.ensures.run (returns-clause-rows g c)
@@ -121,7 +121,7 @@ returns-clause-table g c =
     let plan = planned.reporter.now.plan.now in
     let indices = planned.indices.now in
     let args = c.args.self.now.args.now in
-    let table = rw (c.new-batch.ensures.plan, c.new-batch.ensures.places) at c.stream_rows-stream.ensures.table in
+    let table = rw (c.new-batch.ensures.plan, c.new-batch.ensures.indices) at c.stream_rows-stream.ensures.table in
     table_shown c.write_totals_line-ran.result (record {
       judge = planned.reporter.now.judge;
       max_failures = args.stop_after;

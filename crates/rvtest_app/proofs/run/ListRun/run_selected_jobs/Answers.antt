@@ -32,7 +32,7 @@ returns-clause-run g c =
           c.as_slice.ensures.value,
           c.with_budget-jobs.ensures.jobs,
         ) at found.paths;
-        results_agree = rw (c.new-store.ensures.inputs, c.new-store.ensures.folder) at found.agree;
+        results_agree = rw (c.new-store.ensures.inputs, c.new-store.ensures.directory) at found.agree;
         unread_entries = ap length c.unreadable_paths-unread.ensures ∙ rw c.new-store.ensures.nothing at found.faults;
       };
       rows = _;
@@ -85,7 +85,7 @@ returns-clause-committed_after_error g c =
           c.as_slice.ensures.value,
           c.with_budget-jobs.ensures.jobs,
         ) at found.paths;
-        results_agree = rw (c.new-store.ensures.inputs, c.new-store.ensures.folder) at found.agree;
+        results_agree = rw (c.new-store.ensures.inputs, c.new-store.ensures.directory) at found.agree;
         unread_entries = ap length c.unreadable_paths-unread.ensures ∙ rw c.new-store.ensures.nothing at found.faults;
       };
       rows = rows;

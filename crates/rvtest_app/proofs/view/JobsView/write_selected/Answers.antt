@@ -18,7 +18,7 @@ returns-in_err-text-clause-stopped g c =
       planned = record {
         listed = found.jobs;
         paths = rw (c.as_slice-indices.ensures.value, c.in_ok-selected.ensures.value) at found.paths;
-        results_agree = rw (c.new-store.ensures.inputs, c.new-store.ensures.folder) at found.agree;
+        results_agree = rw (c.new-store.ensures.inputs, c.new-store.ensures.directory) at found.agree;
         unread_entries = ap length c.unreadable_paths.ensures ∙ rw c.new-store.ensures.nothing at found.faults;
       };
       not_made = rw (c.as_slice-indices.ensures.value, c.in_ok-selected.ensures.value) at c.in_err-text.ensures.stopped;
@@ -34,7 +34,7 @@ returns-clause-written g c =
         planned = record {
           listed = found.jobs;
           paths = rw (c.as_slice-indices.ensures.value, c.in_ok-selected.ensures.value) at found.paths;
-          results_agree = rw (c.new-store.ensures.inputs, c.new-store.ensures.folder) at found.agree;
+          results_agree = rw (c.new-store.ensures.inputs, c.new-store.ensures.directory) at found.agree;
           unread_entries = ap length c.unreadable_paths.ensures ∙ rw c.new-store.ensures.nothing at found.faults;
         };
         between = outputs_of g.F.Outputs.committed g.O.Sink.accepted g.E.Sink.accepted g.E.Sink.failure_count

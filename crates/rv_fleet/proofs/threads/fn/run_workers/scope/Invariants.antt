@@ -7,4 +7,4 @@ use Rattle.rv_fleet.proofs.threads.fn.run_workers.scope.Given as goal
 
 abbrev pub invariant-loop-pass : goal.invariant-loop-pass
 invariant-loop-pass g l = AreFresh l.claims.now (into_iter_items l.pass-iterator)
-    × All (IsPromiseAbout (rows_at l.plan.now l.places.now) l.group l.claims.now) l.handles.items
+    × All (IsPromiseAbout (rows_at l.plan.now l.indices.now) l.group l.claims.now) l.handles.items

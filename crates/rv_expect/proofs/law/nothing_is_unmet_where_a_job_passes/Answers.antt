@@ -1,5 +1,0 @@
-use Rattle.rv_expect.proofs.Tellings.{passes_where_empty}
-use Rattle.rv_expect.proofs.law.nothing_is_unmet_where_a_job_passes.Goals as goal
-
-pub returns : goal.returns
-returns c = passes_where_empty

@@ -1,5 +1,0 @@
-use Rattle.std.proofs.Common.{◌≡◌}
-use Rattle.rv_fleet_tests.proofs.tests.draws.fill.Given as goal
-
-abbrev pub invariant-loop-splits : goal.invariant-loop-splits
-invariant-loop-splits l = l.pass.draw ≡ l.claims

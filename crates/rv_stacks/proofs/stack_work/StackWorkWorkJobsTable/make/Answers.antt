@@ -1,4 +1,0 @@
-use Rattle.rv_stacks.proofs.stack_work.StackWorkWorkJobsTable.make.Goals as goal
-
-pub new-requires : goal.new-requires
-new-requires c = c.in_ok-table.ensures.sum.table
