@@ -30,7 +30,9 @@ fn region(base: u32, size: u32) -> Region {
 
 // Writes a part `ADDRESS: NUMBERS` of an image to memory.
 fn load_part(alloc: Global, bus: &mut Bus, part: &str) -> Result<(), Fail> {
-    let (addr, code) = part.split_once(": ").ok_or("expected an address and numbers")?;
+    let (addr, code) = part
+        .split_once(": ")
+        .ok_or("expected an address and numbers")?;
     let addr = hex_of(addr)?;
     let bytes = numbers(alloc, code)?;
     if bytes.len() > 0x1000 || !bus.map().in_one(addr, bytes.len() as u32) {
