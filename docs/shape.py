@@ -65,8 +65,8 @@ def end_of_ghost(text, at, is_item):
 
 
 def code_of(text):
-    """The code of a source: comments, strings, ghost items and clauses are blanked, so that line numbers stay."""
-    text = OPAQUE.sub(lambda found: blanked(found[0]), text)
+    """The code of a source: comments, the contents of strings, ghost items and clauses are blanked, so that line numbers stay."""
+    text = OPAQUE.sub(lambda found: blanked(found[0]) if found[0].startswith("//") else f'"{blanked(found[0][1:-1])}"', text)
     out, at = [], 0
     for found in GHOST.finditer(text):
         if found.start() >= at:
@@ -243,12 +243,13 @@ class Calls:
         return [function for function in found if qualifier in (function.crate, function.path.stem, "crate", "super")]
 
     def of(self, caller):
-        """The functions that a function may call, each once."""
-        found = dict.fromkeys(self.impls[caller.owner, caller.name])
+        """The functions that a function may call, each once. A call of a trait's method is a call of its impls."""
+        found = {}
         for call in CALL.finditer(caller.body):
             if call[3] not in KEYWORDS:
                 given, _ = bracketed(caller.body, call.end() - 1, "(")
-                found.update(dict.fromkeys(self.candidates(caller, call[1], bool(call[2]), call[3], len(parts(given)))))
+                for near in self.candidates(caller, call[1], bool(call[2]), call[3], len(parts(given))):
+                    found.update(dict.fromkeys([near, *self.impls[near.owner, near.name]]))
         return found
 
 

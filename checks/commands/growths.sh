@@ -26,7 +26,7 @@ runs=(
     "rvtest run list.toml|/dev/null|1|list.shown|0|$processors"
     'rvtest run list.toml --workers 1|/dev/null|1|list.shown|0|1'
     'rvtest run list.toml --workers 4 --group 2 --report report|/dev/null|1|list.shown|0|3'
-    'rvtest run list.toml --workers 1 --counts report|/dev/null|1|list.shown|0|2'
+    'rvtest run list.toml --workers 1 --counts report|/dev/null|1|list.shown|0|1'
     'rvtest check list.toml|/dev/null|2|list.checked|0|0'
     'rvtest check faulty.toml|/dev/null|2|faulty.checked|69|0'
     'rvtest explain list.toml fault --last 1|/dev/null|1|fault.explained|0|0'

@@ -1,20 +1,22 @@
 #!/usr/bin/env python3
-"""Want of memory, or of a thread, is never made up. A value that says so (AllocError, AllocFailed, or a variant OutOfMemory or
-NoWorker) is made in the sources only
+"""Code never invents the error that memory ran out, or that a thread could not be started. A value that says so (AllocError, AllocFailed,
+or a variant OutOfMemory or NoWorker) is made in the sources only
   - in an `impl From<AllocError>` or `From<AllocFailed<..>>`,
-  - in an arm of a `match` that passes on another error's variant of that name, or the one error of a growth (`Err(_)` of a `push`),
-  - right below a comment `// Out of memory: WHY.` or `// No worker: WHY.`, which says why the error is just that.
-No contract refuses a body that gives up so, since memory may always be wanting: this check does. It fails where such a value is
-made at any other place, and where such a comment stands above no such line. What it cannot see is a growth that is asked for and
-too great to be given.
+  - in an arm of a `match` that passes on another error's variant of that name, or the only error of a growth (`Err(_)` of a `push`),
+  - directly below a comment that says why the error is exactly this.
+No contract can reject a body that invents such an error, since memory can run out at any time: this check rejects it. It fails if such a
+value is made at any other place, and if a comment `// Out of memory: ..` or `// No worker: ..` is above no such line. It does not see an
+allocation that is larger than needed.
 
-    checks/commands/memory.py           reads crates/*/src, the tests aside
+    checks/commands/memory.py           reads crates/*/src, except for tests
 """
 import os
 import re
 import sys
 
 TOP = os.path.dirname(os.path.dirname(os.path.dirname(os.path.abspath(__file__))))
+
+REASON = re.compile(r"// .+\.$")
 
 MARKER = re.compile(r"// (Out of memory|No worker): .+\.$")
 
@@ -69,12 +71,14 @@ def is_type(line):
 
 
 def made(path):
-    """The numbers of the lines of a file that make such a value, and those of its markers."""
+    """The numbers of the lines of a file that make such a value, those of its comments, and those of the comments that name the error."""
     with open(path) as file:
         text = file.read()
-    lines, markers, blocks, passes_on = [], [], [], False
+    lines, reasons, markers, blocks, passes_on = [], [], [], [], False
     for number, (line, shown) in enumerate(zip(plain(text).split("\n"), text.split("\n"))):
         line = line.strip()
+        if REASON.match(shown.strip()):
+            reasons.append(number)
         if MARKER.match(shown.strip()):
             markers.append(number)
         if re.match(r"(pub |pub\(crate\) )?use .*\b(AllocError|AllocFailed|OutOfMemory|NoWorker) as ", line):
@@ -89,7 +93,7 @@ def made(path):
             elif blocks:
                 blocks.pop()
         passes_on = passes_on and bool(blocks)
-    return lines, markers
+    return lines, reasons, markers
 
 
 def is_arm(line):
@@ -115,15 +119,16 @@ def value_of(line):
 def main():
     faults, count = [], 0
     for path in sources():
-        lines, markers = made(path)
-        count += len(markers)
-        faults += [f"crates/{path.split('/crates/')[1]}:{at + 1}: made up: no comment above says why" for at in lines if at - 1 not in markers]
-        faults += [f"crates/{path.split('/crates/')[1]}:{at + 1}: the comment stands above no such error" for at in markers if at + 1 not in lines]
+        lines, reasons, markers = made(path)
+        count += len(lines)
+        name = f"crates/{path.split('/crates/')[1]}"
+        faults += [f"{name}:{at + 1}: an invented error: expected a comment directly above that says why" for at in lines if at - 1 not in reasons]
+        faults += [f"{name}:{at + 1}: no such error below this comment" for at in markers if at + 1 not in lines]
     for fault in faults:
         print(f"checks/commands/memory.py: {fault}", file=sys.stderr)
     if faults:
         sys.exit(1)
-    print(f"checks/commands/memory.py: {count} places, each with its reason")
+    print(f"checks/commands/memory.py: {count} places, each with a reason")
 
 
 main()

@@ -93,7 +93,7 @@ def check_symbol(row):
 def values(out):
     """The values of the symbols, where they are told, or what is told in place of them."""
     front = rb'list\.toml:1: error: job 1 "a": refused '
-    told = re.match(front + rb"signature-range: the signature from \S+ at (\w+) to \S+ at (\w+) is not ", out)
+    told = re.match(front + rb"signature-range: the signature from \S+ at (\w+) to \S+ at (\w+) is invalid: ", out)
     other = re.match(front + rb"(\S+): ", out)
     return b" ".join(told.groups()) if told else other[1] if other else out
 
