@@ -9,3 +9,4 @@ pub mod Found
 pub mod JobImages
 pub mod OtherImages
 pub mod Shown
+pub mod Branches

@@ -1,11 +1,12 @@
 -- The encodings in the bytes of a function, each directly after the one before it.
-use Rattle.std.specs.Prelude.{◌+◌, ◌*◌, ◌%◌, ◌==◌, ℕ, zero, suc, if◌then◌else◌, List, [], ◌∷◌, Option, Some, None, drop, length, option_and_then, option_map}
+use Rattle.std.specs.Prelude.{◌+◌, ◌*◌, ◌%◌, ◌==◌, ℕ, zero, suc, if◌then◌else◌, List, [], ◌∷◌, Option, Some, None, drop, filter, length, map, option_and_then, option_map}
 use Rattle.std.specs.Option.{option_map_or}
 use Rattle.rv_elf.specs.Functions.{FunctionView}
 use Rattle.rv_counting.specs.Bits.{field}
 use Rattle.rv_counting.specs.declared_code.Code.{Code}
 use Rattle.rv_counting.specs.declared_code.Code.TheVariants.{Half, Word}
 use Rattle.rv_counting.specs.Code.{size_of_code}
+use Rattle.rv_counting.specs.Coverage.{is_branch_code}
 use Rattle.rv_cover_view.specs.Functions.{address_of, bytes_of}
 
 -- the little-endian halfword at the start of the bytes, or `None` if there are fewer than two
@@ -39,3 +40,11 @@ codes_from (suc n) address bytes = option_map_or
 -- all encodings in the code of a function, each with its address
 abbrev pub codes_of : FunctionView → List AddressedCode
 codes_of f = codes_from (length (bytes_of f)) (address_of f) (bytes_of f)
+
+-- the addresses of those encodings that are conditional branches
+abbrev pub branches_among : List AddressedCode → List ℕ
+branches_among ps = map (λ p. p.0) (filter (λ p. is_branch_code p.1) ps)
+
+-- the addresses of the conditional branches of a function
+abbrev pub branch_addresses : FunctionView → List ℕ
+branch_addresses f = branches_among (codes_of f)

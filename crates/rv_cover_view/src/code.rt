@@ -1,14 +1,18 @@
 //! The coverage of the code of a function.
 
-ghost use Rattle.std.specs.Prelude.{◌≡◌, ◌≤◌, ◌∷◌, [], drop, length, true};
+ghost use Rattle.std.specs.Prelude.{◌≡◌, ◌≤◌, ◌∷◌, ◌++◌, [], IfOk, OnOk, drop, length, true};
 ghost use Rattle.rv_count_tables.specs.Table.{increase_from};
 ghost use Rattle.rv_counting.specs.Code.{size_of_code};
-ghost use Rattle.rv_cover_view.specs.Codes.{codes_from, first_code, first_half};
+ghost use Rattle.rv_counting.specs.Coverage.{is_branch_code};
+ghost use Rattle.rv_cover_view.specs.Codes.{branch_addresses, branches_among, codes_from, first_code, first_half};
+ghost use Rattle.rv_cover_view.specs.Functions.{view_of_function};
 ghost use Rattle.rv_cover_view.specs.Cover.{totals_of_codes};
 
 use crate::totals::CodeTotals;
 use rv_count_tables::{AddressCounts, counts_at};
 use rv_counting::{Code, code_length, instr_of, is_branch, is_long};
+use rv_elf::Function;
+use std::alloc::{AllocError, Global};
 
 /// Returns the coverage of the encodings in `code`, one after another; `address` is the address of its first byte.
 pub(crate) fn totals_of_code(address: u32, code: &[u8], counts: &[AddressCounts]) -> CodeTotals
@@ -24,6 +28,41 @@ pub(crate) fn totals_of_code(address: u32, code: &[u8], counts: &[AddressCounts]
         rest = bytes_after(rest, code);
     }
     totals
+}
+
+/// Returns the addresses of the conditional branches of a function, in order.
+pub fn branches_of_function(alloc: Global, function: &Function<'_>) -> Result<Vec<u32>, AllocError>
+    ensures { IfOk result (λ found. found.items ≡ branch_addresses (view_of_function function.now)) }
+{
+    let mut found = Vec::new(alloc);
+    let mut rest = function.code;
+    let mut address = function.address;
+    while let Some(code) = first_code(rest) {
+        push_branch(&mut found, address, code)?;
+        address = address.wrapping_add(code_length(code));
+        rest = bytes_after(rest, code);
+    }
+    Ok(found)
+}
+
+// Appends the address of an encoding if it is a conditional branch.
+fn push_branch(found: &mut Vec<u32>, address: u32, code: Code) -> Result<(), AllocError>
+    ensures { OnOk result (found.new.items ≡ found.old.items ++ branches_among ((address, code) ∷ [])) }
+{
+    if is_branch_code(code) {
+        found.push(address)?;
+    }
+    Ok(())
+}
+
+// Whether an encoding is a conditional branch.
+fn is_branch_code(code: Code) -> bool
+    ensures { result ≡ is_branch_code code }
+{
+    match instr_of(code) {
+        Some(instr) => is_branch(instr.op),
+        None => false,
+    }
 }
 
 // Returns the coverage of one encoding: each total is 0 or 1, and all are 0 if the encoding is illegal.

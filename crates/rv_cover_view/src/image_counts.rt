@@ -67,7 +67,7 @@ fn has_path(table: &CountTable, path: &[u8]) -> bool
 
 /// Returns a table's counts of the image with these bytes, which is identified by its digest. If the table does not have the image, there
 /// are no counts.
-pub(crate) fn counts_of<'t>(table: &'t CountTable, bytes: &[u8]) -> &'t [AddressCounts]
+pub fn counts_of<'t>(table: &'t CountTable, bytes: &[u8]) -> &'t [AddressCounts]
     requires { IsValidTable table.now }
     ensures counts { result.now ≡ counts_of table.now bytes.now }
     ensures increasing { increase_from 0 result.now ≡ true }

@@ -24,9 +24,10 @@ mod text;
 mod totals;
 
 pub use by_address::{each_address_once, functions_by_address};
+pub use code::branches_of_function;
 pub use cover::{cover_of_functions, never_run};
 pub use csv::{push_csv_field, push_csv_header, push_csv_row};
-pub use image_counts::{entry_of_image, other_image};
+pub use image_counts::{counts_of, entry_of_image, other_image};
 pub use image_cover::{ImageCover, cover_of_image};
 pub use image_file::ImageFile;
 pub use images_text::cover_text;

@@ -5,6 +5,7 @@ pub mod ImageChecks
 pub mod ErrorNames
 pub mod Loading
 pub mod Sections
+pub mod NamedSections
 pub mod Symbols
 pub mod SymbolSearch
 pub mod CodeSymbols

@@ -27,9 +27,17 @@ e_shnum file = half_at file 48
 
 -- ---- the section header table, and the fields of the section header at an offset `at`
 
+-- sh_name: the offset of the section's name in the section of names, in the section header at the offset `at`
+abbrev pub sh_name : List ℕ → ℕ → ℕ
+sh_name file at = word_at file at
+
 -- sh_type: the type of the section, in the section header at the offset `at`
 abbrev pub sh_type : List ℕ → ℕ → ℕ
 sh_type file at = word_at file (at + 4)
+
+-- sh_flags: the flags of the section, in the section header at the offset `at`
+abbrev pub sh_flags : List ℕ → ℕ → ℕ
+sh_flags file at = word_at file (at + 8)
 
 -- sh_offset: the offset of the section's bytes in the file, in the section header at the offset `at`
 abbrev pub sh_offset : List ℕ → ℕ → ℕ
@@ -50,7 +58,9 @@ sh_entsize file at = word_at file (at + 36)
 -- the section header at the offset `at`
 unfoldable pub section_at_offset : List ℕ → ℕ → Section
 section_at_offset file at = record {
+  name = sh_name file at;
   sh_type = sh_type file at;
+  flags = sh_flags file at;
   offset = sh_offset file at;
   size = sh_size file at;
   link = sh_link file at;

@@ -31,6 +31,8 @@ pub(crate) const E_SHENTSIZE: usize = 46;
 
 pub(crate) const E_SHNUM: usize = 48;
 
+pub(crate) const E_SHSTRNDX: usize = 50;
+
 // Field offsets in a program header (System V ABI, "Program Header").
 pub(crate) const P_TYPE: usize = 0;
 
@@ -47,7 +49,11 @@ pub(crate) const P_MEMSZ: usize = 20;
 pub(crate) const P_FLAGS: usize = 24;
 
 // Field offsets in a section header (System V ABI, "Sections").
+pub(crate) const SH_NAME: usize = 0;
+
 pub(crate) const SH_TYPE: usize = 4;
+
+pub(crate) const SH_FLAGS: usize = 8;
 
 pub(crate) const SH_OFFSET: usize = 16;
 

@@ -7,22 +7,29 @@ ghost use Rattle.rv_elf.specs.Sections.{section_at_offset, section_at_index, has
 ghost use Rattle.rv_elf.specs.Sections.{is_bad_symbol_table, is_bad_string_table, section_bytes, is_symbol_section, e_shnum, HasSectionHeaders};
 
 use crate::fields::{
-    E_SHENTSIZE, E_SHNUM, E_SHOFF, SH_ENTSIZE, SH_LINK, SH_OFFSET, SH_SIZE, SH_TYPE, half_field,
-    word_field,
+    E_SHENTSIZE, E_SHNUM, E_SHOFF, SH_ENTSIZE, SH_FLAGS, SH_LINK, SH_NAME, SH_OFFSET, SH_SIZE,
+    SH_TYPE, half_field, word_field,
 };
 
 /// The fields of a section header that are used (System V ABI, "Sections").
 #[derive(Clone, Copy)]
-pub(crate) struct Section {
-    pub(crate) sh_type: u32,
-    pub(crate) offset: u32,
-    pub(crate) size: u32,
-    pub(crate) link: u32,
-    pub(crate) entsize: u32,
+pub struct Section {
+    /// The offset of its name in the section of names.
+    pub name: u32,
+    pub sh_type: u32,
+    pub flags: u32,
+    /// The offset of its bytes in the file.
+    pub offset: u32,
+    /// The number of its bytes.
+    pub size: u32,
+    /// For a symbol table, the index of its string table.
+    pub link: u32,
+    /// The size of an entry, if it has entries of a fixed size.
+    pub entsize: u32,
 }
 
 /// The size of a section header.
-const SECTION_HEADER_SIZE: u16 = 40;
+pub(crate) const SECTION_HEADER_SIZE: u16 = 40;
 
 /// The size of an entry of a symbol table.
 const SYMBOL_SIZE: u32 = 16;
@@ -50,15 +57,15 @@ impl Section {
     }
 
     /// Returns the bytes of the section in the file.
-    pub(crate) fn section_bytes<'a>(&self, file: &'a [u8]) -> &'a [u8]
+    pub fn section_bytes<'a>(&self, file: &'a [u8]) -> &'a [u8]
         requires { is_section_past_file (length file.now) self.now ≡ false }
         ensures { result.now ≡ section_bytes file.now self.now }
     {
         &file[self.offset as usize..self.offset as usize + self.size as usize]
     }
 
-    // Whether the section extends past the end of a file of `size` bytes.
-    fn is_section_past_file(&self, size: usize) -> bool
+    /// Whether the section extends past the end of a file of `size` bytes.
+    pub fn is_section_past_file(&self, size: usize) -> bool
         ensures { result ≡ is_section_past_file size self.now }
     {
         size < self.offset as usize + self.size as usize
@@ -102,8 +109,8 @@ pub(crate) fn string_table_section(file: &[u8], symbols: &Section) -> Option<Sec
     Some(section_at_index(file, symbols.link))
 }
 
-// Returns the section header at an index of the table.
-fn section_at_index(file: &[u8], index: u32) -> Section
+/// Returns the section header at an index of the table.
+pub(crate) fn section_at_index(file: &[u8], index: u32) -> Section
     requires table { HasSectionHeaders file.now }
     requires within { index < e_shnum file.now }
     ensures { result ≡ section_at_index file.now index }
@@ -121,7 +128,9 @@ fn section_at_offset(file: &[u8], at: usize) -> Section
     ensures { result ≡ section_at_offset file.now at }
 {
     Section {
+        name: word_field(file, at + SH_NAME),
         sh_type: word_field(file, at + SH_TYPE),
+        flags: word_field(file, at + SH_FLAGS),
         offset: word_field(file, at + SH_OFFSET),
         size: word_field(file, at + SH_SIZE),
         link: word_field(file, at + SH_LINK),

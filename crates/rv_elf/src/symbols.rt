@@ -143,9 +143,9 @@ pub(crate) fn bytes_from(bytes: &[u8], at: usize) -> &[u8]
     &bytes[at.min(bytes.len())..]
 }
 
-// Whether the bytes before the first zero byte equal `text`. If `text` contains a zero byte, they do not; it is checked last, since few
-// candidates get that far.
-fn begins_with_name(bytes: &[u8], text: &[u8]) -> bool
+/// Whether the bytes before the first zero byte equal `text`. If `text` contains a zero byte, they do not; it is checked last, since few
+/// candidates get that far.
+pub(crate) fn begins_with_name(bytes: &[u8], text: &[u8]) -> bool
     ensures { result ≡ begins_with_name bytes.now text.now }
 {
     if bytes.len() <= text.len() || bytes[text.len()] != 0 {

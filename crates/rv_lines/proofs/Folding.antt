@@ -52,7 +52,7 @@ module _ (p : Parameters) (files : FileNumbers) (lengths : List ℕ) where
   unfolding program_rows
   left_all bytes = refl
 
-  read_one : (most : ℕ) (b : ℕ) (bytes : List ℕ) → program (suc most) p.opcode_base lengths (b ∷ bytes)
+  pub read_one : (most : ℕ) (b : ℕ) (bytes : List ℕ) → program (suc most) p.opcode_base lengths (b ∷ bytes)
       ≡ prepend_operation (program most p.opcode_base lengths) (operation_at p.opcode_base lengths (b ∷ bytes))
   unfolding program
   read_one most b bytes = refl
@@ -71,7 +71,7 @@ module _ (p : Parameters) (files : FileNumbers) (lengths : List ℕ) where
 
   -- ---- an operation that was read
 
-  one_row : (s : State) (op : Operation) (ops : List Operation) → rows_of p s (op ∷ ops) ≡ in_front (row_added op (apply p op s)) (rows_of p (next_state p op (apply p op s)) ops)
+  pub one_row : (s : State) (op : Operation) (ops : List Operation) → rows_of p s (op ∷ ops) ≡ in_front (row_added op (apply p op s)) (rows_of p (next_state p op (apply p op s)) ops)
   unfolding rows_of
   one_row s op ops = refl
 
@@ -144,7 +144,7 @@ module _ (p : Parameters) (files : FileNumbers) (lengths : List ℕ) where
 
   -- ---- the end
 
-  no_more : (most : ℕ) → program most p.opcode_base lengths [] ≡ ([], None)
+  pub no_more : (most : ℕ) → program most p.opcode_base lengths [] ≡ ([], None)
   unfolding program
   no_more zero = refl
   no_more (suc most) = refl
@@ -316,7 +316,7 @@ pub noted_if_ok : (total : Rows) (unit : ℕ) (addresses : List ℕ) (old now : 
     → now ≡ noted_all (spans_after unit None rows) addresses old → NotedIfOk total unit addresses old now
 noted_if_ok total unit addresses old now rows h n = subst (λ (r : Rows). NotedIfOk r unit addresses old now) (sym h) n
 
-rest_shorter : (n : ℕ) (r : Read Operation) (op : Operation) (rest : List ℕ) → Within n r → r ≡ Ok (op, rest) → length rest ≤ n
+pub rest_shorter : (n : ℕ) (r : Read Operation) (op : Operation) (rest : List ℕ) → Within n r → r ≡ Ok (op, rest) → length rest ≤ n
 rest_shorter n r op rest w e = subst (Within n) e w
 
 -- an operation takes a byte

@@ -10,7 +10,7 @@ pub mod Folding
 pub mod Headers
 pub mod UnitLists
 pub mod PathTexts
-pub mod Searching
+pub mod RowsLeft
 pub mod LawsOfRows
 pub mod LawsOfUnits
 pub mod LawsOfLines

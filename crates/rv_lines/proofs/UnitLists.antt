@@ -18,7 +18,7 @@ use Rattle.rv_lines.proofs.Noting.{Found, nothing, noted_all_append, noted_sourc
 
 -- ---- one unit more
 
-units_none : (most : ℕ) (strings : Strings) (offset : ℕ) → units most strings offset [] ≡ []
+pub units_none : (most : ℕ) (strings : Strings) (offset : ℕ) → units most strings offset [] ≡ []
 unfolding units
 units_none zero strings offset = refl
 units_none (suc most) strings offset = refl
@@ -27,10 +27,10 @@ none : (xs : List ℕ) → length xs ≤ 0 → xs ≡ []
 none [] le = refl
 none (x ∷ xs) le = absurd (omega arith)
 
-drop_past : (n : ℕ) (xs : List ℕ) → length xs ≤ n → drop n xs ≡ []
+pub drop_past : (n : ℕ) (xs : List ℕ) → length xs ≤ n → drop n xs ≡ []
 drop_past n xs le = none (drop n xs) (omega (arith, length-drop n xs))
 
-units_one : (most : ℕ) (strings : Strings) (offset : ℕ) (b : ℕ) (bytes : List ℕ) → units (suc most) strings offset (b ∷ bytes)
+pub units_one : (most : ℕ) (strings : Strings) (offset : ℕ) (b : ℕ) (bytes : List ℕ) → units (suc most) strings offset (b ∷ bytes)
     ≡ record { offset = offset; rows = rows_at strings (b ∷ bytes) } ∷ units most strings (offset + unit_size (b ∷ bytes)) (drop (unit_size (b ∷ bytes)) (b ∷ bytes))
 unfolding units
 units_one most strings offset b bytes = refl
@@ -64,7 +64,7 @@ one_at most strings section offset here (b ∷ bytes) e lt le h =
     (ap (λ xs. units most strings (offset + unit_size (b ∷ bytes)) (drop (unit_size (b ∷ bytes)) xs)) e
     ∙ units_from most strings section offset (unit_size (b ∷ bytes)) here (h ∙ ap (λ xs. min (unit_size (b ∷ bytes)) (length xs)) e) le)
 
-left_one : (most : ℕ) (strings : Strings) (section : List ℕ) (offset here : ℕ) → offset < length section → here ≡ min (unit_size (drop offset section)) (length (drop offset section))
+pub left_one : (most : ℕ) (strings : Strings) (section : List ℕ) (offset here : ℕ) → offset < length section → here ≡ min (unit_size (drop offset section)) (length (drop offset section))
     → units_left (suc most) strings section offset ≡ unit_read strings section offset ∷ units_left most strings section (offset + here)
 left_one most strings section offset here lt h =
     one_at most strings section offset here (drop offset section) refl (omega (arith, length-drop offset section)) (omega arith) h
@@ -148,7 +148,7 @@ found_start strings section addresses old = record {
   counts = refl;
 }
 
-predecessor : (n : ℕ) → 0 < n → (m : ℕ) × (n ≡ suc m)
+pub predecessor : (n : ℕ) → 0 < n → (m : ℕ) × (n ≡ suc m)
 predecessor zero h = absurd (omega arith)
 predecessor (suc n) h = (n, refl)
 

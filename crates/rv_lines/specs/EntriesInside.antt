@@ -5,17 +5,12 @@ use Rattle.rv_lines.specs.declared.entries.Entries.{Entries}
 use Rattle.rv_lines.specs.declared.entries.Format.{Format}
 use Rattle.rv_lines.specs.declared.entries.Entry as declared
 use Rattle.rv_lines.specs.declared.forms.Field.{Field}
-use Rattle.rv_lines.specs.declared.tables.StringSections.{StringSections}
 use Rattle.rv_lines.specs.Reading.{◌>>=◌, Read}
-use Rattle.rv_lines.specs.Entries.{Strings, Entry, fields_at, is_path}
+use Rattle.rv_lines.specs.Entries.{Entry, fields_at, is_path}
 
 -- an `Entry` of the code as contracts see it, with the name in place of a reference
 abbrev pub view_entry : declared.Entry → Entry
 view_entry e = record { name = e.name.now; directory = e.directory }
-
--- the `StringSections` of the code as contracts see them, with the bytes in place of references
-abbrev pub view_strings : StringSections → Strings
-view_strings t = record { line_str = t.line_str.now; str = t.str.now }
 
 -- the number of entries in a list, and one of them, or `None` if the list does not have it
 abbrev pub Summary : Type 0

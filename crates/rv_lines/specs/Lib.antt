@@ -10,7 +10,8 @@ pub mod Rows
 pub mod Units
 pub mod Lines
 pub mod SearchInside
+pub mod TableRows
 pub mod Paths
 pub mod PathsInside
 pub mod Sections
-pub mod SectionsInside
+pub mod TableViews

@@ -4,7 +4,8 @@
 ghost use Rattle.std.specs.Prelude.{◌≡◌, ◌||◌, if◌then◌else◌, Some, length, option_map, is_ok, true, false};
 ghost use Rattle.rv_lines.specs.Reading.{Gives};
 ghost use Rattle.rv_lines.specs.Entries.{empty_entry, is_path, numbers_at, list_at, fields_at, with_field, entry_at, entries_at, table_at};
-ghost use Rattle.rv_lines.specs.EntriesInside.{is_index, view_entry, view_entries, view_strings, summarised, path_and_rest, fields_of};
+ghost use Rattle.rv_lines.specs.EntriesInside.{is_index, view_entry, view_entries, summarised, path_and_rest, fields_of};
+ghost use Rattle.rv_lines.specs.TableViews.{view_strings};
 
 use crate::error::UnitError;
 use crate::forms::{

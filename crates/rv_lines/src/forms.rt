@@ -4,7 +4,7 @@ ghost use Rattle.std.specs.Prelude.{◌≡◌};
 ghost use Rattle.rv_lines.specs.Reading.{Gives};
 ghost use Rattle.rv_lines.specs.Entries.{is_string_form, size_of_form, is_number_form, is_known_form, is_valid_field, field_at, offset_string_at};
 ghost use Rattle.rv_lines.specs.Entries.{form_string_at, form_number_at, sized_number_at, skip_variable_form, skipped_size, skip_form};
-ghost use Rattle.rv_lines.specs.EntriesInside.{view_strings};
+ghost use Rattle.rv_lines.specs.TableViews.{view_strings};
 
 use crate::error::UnitError;
 use crate::numbers::{number_at, skip_number};

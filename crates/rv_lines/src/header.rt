@@ -4,7 +4,8 @@ ghost use Rattle.std.specs.Prelude.{◌≡◌, ◌<◌, IfOk};
 ghost use Rattle.rv_lines.specs.Reading.{Gives};
 ghost use Rattle.rv_lines.specs.Header.{are_standard, sign_extended, operations_check, lengths_at, parameters_at, entries_of_version};
 ghost use Rattle.rv_lines.specs.Header.{first_number, index_of, fields_of_header, addresses_check, version_at, frame_at, header_at};
-ghost use Rattle.rv_lines.specs.EntriesInside.{view_entries, view_strings, summarised};
+ghost use Rattle.rv_lines.specs.EntriesInside.{view_entries, summarised};
+ghost use Rattle.rv_lines.specs.TableViews.{view_strings};
 ghost use Rattle.rv_lines.specs.HeaderInside.{view_header, header_summary_of, header_summary_at};
 
 use crate::entries::{Entries, Entry, list_at, table_at};

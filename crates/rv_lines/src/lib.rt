@@ -2,7 +2,8 @@
 //!
 //! [`line_tables`] finds `.debug_line` and the string sections in a file. [`find_lines`] finds the source lines of sorted addresses without
 //! building a table, and returns how many units were rejected and the error of the first. [`source_path`] returns the path of a line's
-//! file. Each result is exactly as defined in `specs/`, which supports a subset of the standard. Nothing here allocates.
+//! file. [`table_rows`] returns the rows of the table, one after the other. Each result is exactly as defined in `specs/`, which supports a
+//! subset of the standard. Nothing here allocates.
 #![tactic(auto)]
 
 mod entries;
@@ -16,9 +17,11 @@ mod path;
 mod program;
 mod reading;
 mod rows;
+mod rows_left;
 mod search;
 mod sections;
 mod span;
+mod table_walk;
 mod tables;
 mod units;
 
@@ -28,9 +31,12 @@ pub use law::{
     path_is_name_after_directory, rows_are_of_operations, rows_depend_on_the_unit,
 };
 pub use path::{SourcePath, source_path};
+pub use rows::Row;
+pub use rows_left::TableRows;
 pub use search::{RejectedUnits, find_lines};
 pub use sections::line_tables;
 pub use span::SourceLine;
+pub use table_walk::{CoveredRange, UnitRow, table_rows};
 pub use tables::{LineTables, StringSections};
 
 #[cfg(test)]

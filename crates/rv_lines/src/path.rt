@@ -1,6 +1,7 @@
 //! The path of a source line's file (DWARF 5, section 6.2.4: `directories`, `file_names`).
 ghost use Rattle.std.specs.Prelude.{◌≡◌, ◌==◌, Some, None, MatchOption, option_map, option_and_then};
-ghost use Rattle.rv_lines.specs.EntriesInside.{view_entry, view_strings};
+ghost use Rattle.rv_lines.specs.EntriesInside.{view_entry};
+ghost use Rattle.rv_lines.specs.TableViews.{view_strings};
 ghost use Rattle.rv_lines.specs.Paths.{is_absolute, has_no_directory, directory_name, path_of};
 ghost use Rattle.rv_lines.specs.PathsInside.{unit_header_summary, view_path};
 ghost use Rattle.rv_lines.specs.HeaderInside.{view_header};

@@ -17,16 +17,20 @@ pub(crate) struct State {
     pub(crate) low: Option<u32>,
 }
 
-/// A row: the registers when an operation added it. `ends` says whether the row ends its sequence, and `low` is the address of the
-/// sequence's first row.
+/// A row: the registers when an operation added it.
 #[derive(Clone, Copy)]
-pub(crate) struct Row {
-    pub(crate) address: u32,
-    pub(crate) file: u32,
-    pub(crate) line: u32,
-    pub(crate) is_stmt: bool,
-    pub(crate) ends: bool,
-    pub(crate) low: u32,
+pub struct Row {
+    pub address: u32,
+    /// The number of the file in its unit.
+    pub file: u32,
+    /// The line, from 1, or 0 for none.
+    pub line: u32,
+    /// Whether a statement begins here.
+    pub is_stmt: bool,
+    /// Whether the sequence ends here.
+    pub ends: bool,
+    /// The address of the first row of the sequence.
+    pub low: u32,
 }
 
 impl State {

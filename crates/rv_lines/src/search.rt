@@ -1,6 +1,6 @@
 //! The lookup of addresses, in one pass over the units of `.debug_line` that stores no table.
 ghost use Rattle.std.specs.Prelude.{◌≡◌, ◌<◌, ◌≤◌, ◌^◌, length, map};
-ghost use Rattle.rv_lines.specs.EntriesInside.{view_strings};
+ghost use Rattle.rv_lines.specs.TableViews.{view_strings};
 ghost use Rattle.rv_lines.specs.Lines.{line_at, units_of, rejected_units};
 ghost use Rattle.rv_lines.specs.SearchInside.{drop_line_0, clear, IsRising, rejected_after};
 

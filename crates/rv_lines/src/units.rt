@@ -1,7 +1,7 @@
 //! The units of `.debug_line` (DWARF 5, sections 7.2.2 and 7.4 for their lengths, section 6.2.4).
 ghost use Rattle.std.specs.Prelude.{◌≡◌, ◌<◌, length, drop, min, MatchResult, IfOk, Err};
 ghost use Rattle.rv_lines.specs.Reading.{Gives};
-ghost use Rattle.rv_lines.specs.EntriesInside.{view_strings};
+ghost use Rattle.rv_lines.specs.TableViews.{view_strings};
 ghost use Rattle.rv_lines.specs.Units.{unit_bytes, unit_size, long_unit_size, rows_at};
 ghost use Rattle.rv_lines.specs.Lines.{spans_of_rows};
 ghost use Rattle.rv_lines.specs.SearchInside.{noted_all, checked_only, rows_of_program, IsRising};
@@ -44,8 +44,8 @@ pub(crate) fn note_unit(
     note_program(&program, addresses, found)
 }
 
-// Returns the program of the unit at an offset, or the error of its length or of its header.
-fn program_of<'a>(tables: &LineTables<'a>, offset: u32) -> Result<Program<'a>, UnitError>
+/// Returns the program of the unit at an offset, or the error of its length or of its header.
+pub(crate) fn program_of<'a>(tables: &LineTables<'a>, offset: u32) -> Result<Program<'a>, UnitError>
     ensures value { MatchResult result
         (λ p. rows_at (view_strings tables.now.strings) (drop offset tables.now.lines.now) ≡ rows_of_program p)
         (λ e. rows_at (view_strings tables.now.strings) (drop offset tables.now.lines.now) ≡ Err e) }

@@ -1,7 +1,8 @@
 use Rattle.std.proofs.Common.{◌≡◌, ◌∙◌, ◌+◌, ◌-◌, ◌≤◌, sym, ap, subst, cond, option_map, Option, Some, Ok, arith}
 use Rattle.std.proofs.lemmas.Result.{err_from_is_err_and}
 use Rattle.rv_lines.specs.Entries.{Entry, entries_at}
-use Rattle.rv_lines.specs.EntriesInside.{view_entry, view_strings, is_index, fields_of, summarised}
+use Rattle.rv_lines.specs.EntriesInside.{view_entry, is_index, fields_of, summarised}
+use Rattle.rv_lines.specs.TableViews.{view_strings}
 use Rattle.rv_lines.proofs.EntryLists.{resumed, entries_on, entries_fail, entries_done}
 use Rattle.rv_lines.proofs.entries.entries_at.Goals as goal
 

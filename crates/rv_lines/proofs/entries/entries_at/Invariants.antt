@@ -1,6 +1,7 @@
 use Rattle.std.proofs.Common.{◌≡◌, ◌-◌, option_map}
 use Rattle.rv_lines.specs.Entries.{entries_at}
-use Rattle.rv_lines.specs.EntriesInside.{view_entry, view_strings, fields_of, summarised}
+use Rattle.rv_lines.specs.EntriesInside.{view_entry, fields_of, summarised}
+use Rattle.rv_lines.specs.TableViews.{view_strings}
 use Rattle.rv_lines.proofs.EntryLists.{resumed}
 use Rattle.rv_lines.proofs.entries.entries_at.Given as goal
 

@@ -1,6 +1,7 @@
 use Rattle.std.proofs.lemmas.Result.{err_from_is_err_and}
 use Rattle.rv_lines.specs.Entries.{empty_entry, entry_at}
-use Rattle.rv_lines.specs.EntriesInside.{view_entry, view_strings, fields_of}
+use Rattle.rv_lines.specs.EntriesInside.{view_entry, fields_of}
+use Rattle.rv_lines.specs.TableViews.{view_strings}
 use Rattle.rv_lines.proofs.EntryLoops.{field_there, ok_on, entry_on, entry_ends, entry_done}
 use Rattle.rv_lines.proofs.entries.entry_at.Goals as goal
 

@@ -1,6 +1,7 @@
 use Rattle.std.proofs.Common.{◌≡◌, ◌-◌, is_ok, true}
 use Rattle.rv_lines.specs.Entries.{fields_at, entry_at, empty_entry}
-use Rattle.rv_lines.specs.EntriesInside.{view_entry, view_strings, fields_of}
+use Rattle.rv_lines.specs.EntriesInside.{view_entry, fields_of}
+use Rattle.rv_lines.specs.TableViews.{view_strings}
 use Rattle.rv_lines.proofs.EntryLoops.{entry_left}
 use Rattle.rv_lines.proofs.entries.entry_at.Given as goal
 

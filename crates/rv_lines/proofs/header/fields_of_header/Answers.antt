@@ -1,5 +1,6 @@
 use Rattle.std.proofs.lemmas.Result.{err_from_is_err_and}
-use Rattle.rv_lines.specs.EntriesInside.{view_strings, view_entries}
+use Rattle.rv_lines.specs.EntriesInside.{view_entries}
+use Rattle.rv_lines.specs.TableViews.{view_strings}
 use Rattle.rv_lines.proofs.Headers.{directories_fail, files_fail, files_done}
 use Rattle.rv_lines.proofs.header.fields_of_header.Goals as goal
 

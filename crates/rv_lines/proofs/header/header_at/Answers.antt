@@ -1,5 +1,5 @@
 use Rattle.std.proofs.lemmas.Result.{err_from_is_err_and}
-use Rattle.rv_lines.specs.EntriesInside.{view_strings}
+use Rattle.rv_lines.specs.TableViews.{view_strings}
 use Rattle.rv_lines.proofs.Headers.{header_fails}
 use Rattle.rv_lines.proofs.header.header_at.Goals as goal
 

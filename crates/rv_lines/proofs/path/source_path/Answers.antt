@@ -1,6 +1,7 @@
 use Rattle.std.proofs.Common.{◌∙◌, drop, sym, ap, Some, option_map, refl}
 use Rattle.rv_lines.specs.Reading.{◌>>=◌}
-use Rattle.rv_lines.specs.EntriesInside.{view_entry, view_strings}
+use Rattle.rv_lines.specs.EntriesInside.{view_entry}
+use Rattle.rv_lines.specs.TableViews.{view_strings}
 use Rattle.rv_lines.specs.Header.{header_at}
 use Rattle.rv_lines.specs.HeaderInside.{view_header}
 use Rattle.rv_lines.specs.Paths.{path_with, path_of}

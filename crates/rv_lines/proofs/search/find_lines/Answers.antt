@@ -1,6 +1,6 @@
 use Rattle.std.proofs.Common.{◌≡◌, ◌∙◌, ◌<◌, ◌+◌, sym, ap, subst, length, length-drop, drop, min, arith}
 use Rattle.rv_lines.specs.declared.search.RejectedUnits.{RejectedUnits}
-use Rattle.rv_lines.specs.EntriesInside.{view_strings}
+use Rattle.rv_lines.specs.TableViews.{view_strings}
 use Rattle.rv_lines.specs.Units.{unit_size}
 use Rattle.rv_lines.proofs.UnitLists.{FoundSoFar, found_start, found_on, found_counts, found_all, lines_found, size_positive}
 use Rattle.rv_lines.proofs.search.find_lines.Goals as goal

@@ -1,6 +1,6 @@
 use Rattle.std.proofs.Common.{◌∙◌, sym, ap, drop}
 use Rattle.std.proofs.lemmas.Result.{err_from_is_err_and}
-use Rattle.rv_lines.specs.EntriesInside.{view_strings}
+use Rattle.rv_lines.specs.TableViews.{view_strings}
 use Rattle.rv_lines.specs.HeaderInside.{view_header}
 use Rattle.rv_lines.specs.Units.{unit_bytes}
 use Rattle.rv_lines.proofs.Headers.{rows_header_fails, rows_of_brief}

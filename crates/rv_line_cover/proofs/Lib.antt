@@ -1,0 +1,11 @@
+pub mod Beside
+pub mod FirstRows
+pub mod Found
+pub mod Images
+pub mod Joined
+pub mod Lists
+pub mod Numbers
+pub mod Paths
+pub mod Sets
+pub mod Sources
+pub mod Texts

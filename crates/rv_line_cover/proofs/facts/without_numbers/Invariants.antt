@@ -1,0 +1,6 @@
+use Rattle.std.proofs.Common.{◌≡◌, map, take}
+use Rattle.rv_line_cover.specs.Facts.{without_number}
+use Rattle.rv_line_cover.proofs.facts.without_numbers.Given as goal
+
+abbrev pub invariant-loop-fact : goal.invariant-loop-fact
+invariant-loop-fact l = l.found.items ≡ map without_number (take l.fact-index l.facts)

@@ -1,0 +1,11 @@
+pub mod TextSets
+pub mod Addresses
+pub mod FileSources
+pub mod FileSourcesInside
+pub mod LineFacts
+pub mod Lookup
+pub mod BranchFacts
+pub mod FunctionFacts
+pub mod Facts
+pub mod SourceTable
+pub mod Coverage
