@@ -1,7 +1,7 @@
 -- Lists of one element more.
-use Rattle.std.proofs.Common.{◌≡◌, ◌∙◌, ◌+◌, ◌<◌, ◌++◌, ℕ, not, List, [], ◌∷◌, Option, ap, false, get_or, length, map, subst, sym, take}
+use Rattle.std.proofs.Common.{◌≡◌, ◌∙◌, ◌+◌, ◌<◌, ◌++◌, ℕ, not, List, [], ◌∷◌, Option, Some, None, ap, false, get_or, length, map, subst, sym, take}
 use Rattle.std.specs.List.{flat_map}
-use Rattle.std.specs.Prelude.{filter, filter_map}
+use Rattle.std.specs.Prelude.{cons_option, filter, filter_map}
 use Rattle.std.proofs.lemmas.Grind.{flat_map-append}
 use Rattle.std.proofs.lemmas.List.{append-nil, map-append, take_more}
 use Rattle.std.proofs.lemmas.List.Elements.{filter-append, filter_map-append}
@@ -35,6 +35,19 @@ flat_map_more f h xs i x d lt is =
 pub filter_map_more : {X Y Z : Type 0} (f : Y → Option Z) (h : X → Y) (xs : List X) (i : ℕ) (x d : X) → i < length xs → x ≡ get_or xs i d
     → filter_map f (map h (take (i + 1) xs)) ≡ filter_map f (map h (take i xs)) ++ filter_map f (h x ∷ [])
 filter_map_more f h xs i x d lt is = ap (filter_map f) (map_more h xs i x d lt is) ∙ filter_map-append f (map h (take i xs)) (h x ∷ [])
+
+filter_map_next : {X Y : Type 0} (f : X → Option Y) (xs : List X) (i : ℕ) (x d : X) → i < length xs → x ≡ get_or xs i d
+    → filter_map f (take (i + 1) xs) ≡ filter_map f (take i xs) ++ filter_map f (x ∷ [])
+filter_map_next f xs i x d lt is = ap (filter_map f) (one_more xs i x d lt is) ∙ filter_map-append f (take i xs) (x ∷ [])
+
+pub filter_map_some : {X Y : Type 0} (f : X → Option Y) (xs : List X) (i : ℕ) (x d : X) (y : Y) → i < length xs → x ≡ get_or xs i d → f x ≡ Some y
+    → filter_map f (take (i + 1) xs) ≡ filter_map f (take i xs) ++ y ∷ []
+filter_map_some f xs i x d y lt is some = filter_map_next f xs i x d lt is ∙ ap (λ o. filter_map f (take i xs) ++ cons_option o []) some
+
+pub filter_map_none : {X Y : Type 0} (f : X → Option Y) (xs : List X) (i : ℕ) (x d : X) → i < length xs → x ≡ get_or xs i d → f x ≡ None
+    → filter_map f (take (i + 1) xs) ≡ filter_map f (take i xs)
+filter_map_none f xs i x d lt is none =
+    filter_map_next f xs i x d lt is ∙ ap (λ o. filter_map f (take i xs) ++ cons_option o []) none ∙ append-nil (filter_map f (take i xs))
 
 pub paths_more : (strings : Strings) (section : List ℕ) (rows : List UnitRow) (i : ℕ) (row d : UnitRow) → i < length rows → row ≡ get_or rows i d
     → paths_of_rows strings section (take (i + 1) rows) ≡ paths_of_rows strings section (take i rows) ++ paths_of_rows strings section (row ∷ [])
