@@ -1,7 +1,7 @@
 -- Lists of one element more.
 use Rattle.std.proofs.Common.{◌≡◌, ◌∙◌, ◌+◌, ◌<◌, ◌++◌, ℕ, not, List, [], ◌∷◌, Option, Some, None, ap, false, get_or, length, map, subst, sym, take}
-use Rattle.std.specs.List.{flat_map}
-use Rattle.std.specs.Prelude.{cons_option, filter, filter_map}
+use Rattle.std.specs.List.{cons_option, flat_map}
+use Rattle.std.specs.Prelude.{filter, filter_map}
 use Rattle.std.proofs.lemmas.Grind.{flat_map-append}
 use Rattle.std.proofs.lemmas.List.{append-nil, map-append, take_more}
 use Rattle.std.proofs.lemmas.List.Elements.{filter-append, filter_map-append}
