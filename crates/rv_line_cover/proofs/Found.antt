@@ -1,11 +1,10 @@
 -- What was found for an address, by its index.
 use Rattle.std.proofs.Common.{◌≡◌, ◌≤◌, ◌∙◌, ◌<◌, ℕ, zero, suc, cond, List, [], ◌∷◌, Err, MatchResult, Ok, Option, Result, None, ap, arith, eq-eqb, get_or, length, refl, subst, sym, ⊎_elim}
-use Rattle.core.proofs.str.Laws.{order}
 use Rattle.std.proofs.lemmas.List.Kept.{AllPairs-from_increasing}
 use Rattle.std.proofs.lemmas.List.Sorted.{searched}
 use Rattle.std.specs.List.Sorted.{IsBinarySearchResult, IsStrictlyIncreasing}
 use Rattle.std.specs.Ordering.{nat_cmp}
-use Rattle.std.proofs.lemmas.Bool.{ne_eqb}
+use Rattle.std.proofs.lemmas.Bool.{cases_lt, ne_eqb}
 use Rattle.rv_lines.specs.declared.span.SourceLine.{SourceLine}
 use Rattle.rv_line_cover.specs.Lookup.{found_line}
 
@@ -34,7 +33,7 @@ in_order bs up i j le lt =
     ⊎_elim
     (λ below. omega (arith, AllPairs-from_increasing bs up i j 0 below lt))
     (λ above. let same : i ≡ j = omega arith in omega (arith, ap (λ k. get_or bs k 0) same))
-    (order i j)
+    (cases_lt i j)
 
 -- a binary search for an address finds its line, or that it has none
 pub found_by_search : (bs : List ℕ) (ls : List (Option SourceLine)) (r : Result ℕ ℕ) (a : ℕ) (d : Option SourceLine)
@@ -46,4 +45,4 @@ found_by_search bs ls (Ok i) a d found up e =
 found_by_search bs ls (Err i) a d found up e =
     let parted = searched bs a (Err i) found (in_order bs up) in
     found_none bs ls a (λ k lt is.
-    ⊎_elim (λ below. omega (arith, parted.1 k below, is)) (λ above. omega (arith, parted.2 k above lt, is)) (order k i))
+    ⊎_elim (λ below. omega (arith, parted.1 k below, is)) (λ above. omega (arith, parted.2 k above lt, is)) (cases_lt k i))
