@@ -28,11 +28,11 @@ found_none (b ∷ bs) (l ∷ ls) a h =
     found_none bs ls a (λ k lt. h (suc k) (omega arith)) ∙ sym (passed b a bs l ls (h 0 (omega arith)))
 
 -- addresses in increasing order never decrease
-in_order : (bs : List ℕ) → IsStrictlyIncreasing bs → (i j : ℕ) → i ≤ j → j < length bs → get_or bs i 0 ≤ get_or bs j 0
-in_order bs up i j le lt =
+pub in_order : (bs : List ℕ) → IsStrictlyIncreasing bs → (i j d : ℕ) → i ≤ j → j < length bs → get_or bs i d ≤ get_or bs j d
+in_order bs up i j d le lt =
     ⊎_elim
-    (λ below. omega (arith, AllPairs-from_increasing bs up i j 0 below lt))
-    (λ above. let same : i ≡ j = omega arith in omega (arith, ap (λ k. get_or bs k 0) same))
+    (λ below. omega (arith, AllPairs-from_increasing bs up i j d below lt))
+    (λ above. let same : i ≡ j = omega arith in omega (arith, ap (λ k. get_or bs k d) same))
     (cases_lt i j)
 
 -- a binary search for an address finds its line, or that it has none
@@ -40,9 +40,9 @@ pub found_by_search : (bs : List ℕ) (ls : List (Option SourceLine)) (r : Resul
     → IsBinarySearchResult (λ y. nat_cmp y a) bs r → IsStrictlyIncreasing bs → length ls ≡ length bs
     → MatchResult r (λ i. get_or ls i d ≡ found_line bs ls a) (λ i. None ≡ found_line bs ls a)
 found_by_search bs ls (Ok i) a d found up e =
-    let at = searched bs a (Ok i) found (in_order bs up) in
+    let at = searched bs a (Ok i) found (λ i j. in_order bs up i j 0) in
     found_at bs ls i a d at.0 e (λ k lt. subst (λ x. get_or bs k 0 < x) at.1 (AllPairs-from_increasing bs up k i 0 lt at.0)) at.1
 found_by_search bs ls (Err i) a d found up e =
-    let parted = searched bs a (Err i) found (in_order bs up) in
+    let parted = searched bs a (Err i) found (λ i j. in_order bs up i j 0) in
     found_none bs ls a (λ k lt is.
     ⊎_elim (λ below. omega (arith, parted.1 k below, is)) (λ above. omega (arith, parted.2 k above lt, is)) (cases_lt k i))

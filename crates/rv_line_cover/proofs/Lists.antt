@@ -49,6 +49,17 @@ pub filter_map_none : {X Y : Type 0} (f : X → Option Y) (xs : List X) (i : ℕ
 filter_map_none f xs i x d lt is none =
     filter_map_next f xs i x d lt is ∙ ap (λ o. filter_map f (take i xs) ++ cons_option o []) none ∙ append-nil (filter_map f (take i xs))
 
+pub filter_map_more_some : {X Y Z : Type 0} (f : Y → Option Z) (h : X → Y) (xs : List X) (i : ℕ) (x d : X) (z : Z) → i < length xs → x ≡ get_or xs i d
+    → f (h x) ≡ Some z → filter_map f (map h (take (i + 1) xs)) ≡ filter_map f (map h (take i xs)) ++ z ∷ []
+filter_map_more_some f h xs i x d z lt is some =
+    filter_map_more f h xs i x d lt is ∙ ap (λ o. filter_map f (map h (take i xs)) ++ cons_option o []) some
+
+pub filter_map_more_none : {X Y Z : Type 0} (f : Y → Option Z) (h : X → Y) (xs : List X) (i : ℕ) (x d : X) → i < length xs → x ≡ get_or xs i d
+    → f (h x) ≡ None → filter_map f (map h (take (i + 1) xs)) ≡ filter_map f (map h (take i xs))
+filter_map_more_none f h xs i x d lt is none =
+    filter_map_more f h xs i x d lt is ∙ ap (λ o. filter_map f (map h (take i xs)) ++ cons_option o []) none
+    ∙ append-nil (filter_map f (map h (take i xs)))
+
 pub paths_more : (strings : Strings) (section : List ℕ) (rows : List UnitRow) (i : ℕ) (row d : UnitRow) → i < length rows → row ≡ get_or rows i d
     → paths_of_rows strings section (take (i + 1) rows) ≡ paths_of_rows strings section (take i rows) ++ paths_of_rows strings section (row ∷ [])
 paths_more strings section rows i row d lt is =

@@ -1,5 +1,5 @@
 -- The addresses that a set has, and what a result that is a success has.
-use Rattle.std.proofs.Common.{◌≡◌, ◌∙◌, ◌++◌, ◌||◌, ℕ, List, [], ◌∷◌, Result, Ok, Err, ap, arith, nat_eq, refl, sym}
+use Rattle.std.proofs.Common.{◌≡◌, ◌∙◌, ◌++◌, ◌||◌, ℕ, Bool, true, false, cond, List, [], ◌∷◌, Result, Ok, Err, ap, arith, nat_eq, refl, sym}
 use Rattle.std.specs.BTreeMap.{is_at}
 use Rattle.std.specs.BTreeSet.{BTreeSet, contains}
 use Rattle.std.specs.List.{list_any}
@@ -9,6 +9,7 @@ use Rattle.std.specs.Prelude.{IfOk}
 use Rattle.std.proofs.lemmas.Bool.Decides.{nat_tests}
 use Rattle.std.proofs.lemmas.List.Folds.{list_any-append}
 use Rattle.std.proofs.Math.Bool.{or_assoc}
+use Rattle.rv_count_tables.specs.declared.table.AddressCounts.{AddressCounts}
 use Rattle.rv_line_cover.specs.Addresses.{IsAddressSet}
 
 -- what follows of a value follows of a result
@@ -45,3 +46,33 @@ address_set rows counts code found none some more all empty a b c up same = reco
       ∙ ap (λ t. list_any (nat_eq q) rows || t) (sym (list_any-append (nat_eq q) counts code))
       ∙ sym (list_any-append (nat_eq q) rows (counts ++ code));
 }
+
+-- ---- one address more
+
+at_address : (k q : ℕ) → is_eq (nat_cmp k q) ≡ nat_eq q k
+at_address k q = grind (arith, nat_tests)
+
+or_of_cond : (b had : Bool) → cond b true had ≡ (had || b)
+or_of_cond true true = refl
+or_of_cond true false = refl
+or_of_cond false true = refl
+or_of_cond false false = refl
+
+or_false : (b : Bool) → b ≡ (b || false)
+or_false true = refl
+or_false false = refl
+
+pub one_address_more : (q k : ℕ) (xs : List ℕ) (had old now : Bool) → now ≡ cond (is_eq (nat_cmp k q)) true had → had ≡ (old || list_any (nat_eq q) xs)
+    → now ≡ (old || list_any (nat_eq q) (xs ++ k ∷ []))
+one_address_more q k xs had old now updated before =
+    updated
+    ∙ ap (λ b. cond b true had) (at_address k q)
+    ∙ or_of_cond (nat_eq q k) had
+    ∙ ap (λ b. b || nat_eq q k) before
+    ∙ or_assoc old (list_any (nat_eq q) xs) (nat_eq q k)
+    ∙ ap (λ b. old || (list_any (nat_eq q) xs || b)) (or_false (nat_eq q k))
+    ∙ ap (λ b. old || b) (sym (list_any-append (nat_eq q) xs (k ∷ [])))
+
+-- a value past the end of counts
+abbrev pub no_count : AddressCounts
+no_count = record { address = 0; executed = 0; taken = 0 }

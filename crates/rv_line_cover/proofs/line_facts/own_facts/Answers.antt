@@ -14,12 +14,13 @@ loop-address-preserved c =
     let address = get_or c.as_slice-address-items.result.now at 0 in
     let is : address ≡ get_or addresses at 0 = ap (λ (xs : List ℕ). get_or xs at 0) c.as_slice-address-items.ensures.value in
     let within : at < length addresses = omega (arith, c.loop-address-test.true, ap length c.as_slice-address-items.ensures.value) in
+    let had = rw c.as_slice-address-items.ensures.value at c.loop-address.invariant in
     elim c.match-own_fact.branch [
       | in-Some+in_ok-push w ↦
           ap (λ (v : Vec PlaceCount Global). v.items) w.facts-is ∙ (w.in_ok-push.ensures.items
-          ∙ (ap (λ facts. facts ++ w.in-Some.fact ∷ []) c.loop-address.invariant
+          ∙ (ap (λ facts. facts ++ w.in-Some.fact ∷ []) had
           ∙ sym (filter_map_some f addresses at address 0 w.in-Some.fact within is (sym c.own_fact.ensures ∙ w.in-Some.is))))
       | in_default w ↦
-          ap (λ (v : Vec PlaceCount Global). v.items) w.facts-is ∙ (c.loop-address.invariant
+          ap (λ (v : Vec PlaceCount Global). v.items) w.facts-is ∙ (had
           ∙ sym (filter_map_none f addresses at address 0 within is (sym c.own_fact.ensures ∙ w.in_default.is)))
     ]
