@@ -1,5 +1,5 @@
 -- The line tables of an image, the sets of texts, and what is known of addresses.
-use Rattle.std.proofs.Common.{◌≡◌, ◌∙◌, ℕ, List, [], Option, Result, Ok, Err, ap, map, subst, sym}
+use Rattle.std.proofs.Common.{◌≡◌, ◌∙◌, ℕ, List, [], ◌∷◌, Option, Result, Ok, Err, ap, map, refl, subst, sym}
 use Rattle.std.specs.Cmp.Lexicographic.{slice_cmp}
 use Rattle.std.specs.List.{list_any}
 use Rattle.std.specs.List.Sorted.{IsStrictlySortedBy}
@@ -11,7 +11,8 @@ use Rattle.rv_count_tables.specs.declared.table.AddressCounts.{AddressCounts}
 use Rattle.rv_count_tables.specs.Table.{executed_at, taken_at}
 use Rattle.rv_cover_view.specs.JobImages.{ImageFileView}
 use Rattle.rv_elf.specs.declared.image.Image.{Image}
-use Rattle.rv_elf.specs.Functions.{functions}
+use Rattle.rv_elf.specs.Functions.{FunctionView, functions}
+use Rattle.rv_elf.specs.declared.function.Function.{Function}
 use Rattle.rv_lines.specs.declared.error.LinesError.{LinesError}
 use Rattle.rv_lines.specs.declared.span.SourceLine.{SourceLine}
 use Rattle.rv_lines.specs.Sections.{Tables, line_tables}
@@ -46,6 +47,10 @@ pub names_without_tables : (image : ImageFileView) (error : LinesError) (old : L
     → HasAdded old (names_of_image image) old
 names_without_tables image error old is =
     subst (λ (r : Result Tables LinesError). HasAdded old (option_map_or (λ _. names image) (result_ok r) []) old) (sym is) (added_none old)
+
+pub names_of_views : (fs : List Function) → map (λ (f : Function). f.name.now) fs ≡ map (λ (f : FunctionView). f.0) (map (λ (f : Function). (f.name.now, (f.address, f.code.now))) fs)
+names_of_views [] = refl
+names_of_views (f ∷ fs) = ap (λ names. f.name.now ∷ names) (names_of_views fs)
 
 -- ---- the facts of an image
 

@@ -102,3 +102,16 @@ added_again xs t there = record { each = λ q. again_by (bytes_eq q t) t xs q (b
 -- a text of the set stays there
 pub added_keeps : (a xs b : List (List ℕ)) (q : List ℕ) → HasAdded a xs b → list_any (bytes_eq q) a ≡ true → list_any (bytes_eq q) b ≡ true
 added_keeps a xs b q h there = h.each q ∙ ap (λ t. t || list_any (bytes_eq q) xs) there
+
+-- ---- texts in order
+
+all_less : {K L : Type 0} (cmp : L → L → Ordering) (f : K → L) (k : K) (ks : List K) → AllByRecursion (λ j. cmp (f k) (f j) ≡ Less) ks
+    → AllByRecursion (λ l. cmp (f k) l ≡ Less) (map f ks)
+all_less cmp f k [] h = h
+all_less cmp f k (j ∷ ks) h = (h.0, all_less cmp f k ks h.1)
+
+pub sorted_map : {K L : Type 0} (cmp : L → L → Ordering) (f : K → L) (ks : List K) → IsStrictlySortedBy (λ j k. cmp (f j) (f k)) ks
+    → IsStrictlySortedBy cmp (map f ks)
+unfolding IsStrictlySortedBy
+sorted_map cmp f [] h = h
+sorted_map cmp f (k ∷ ks) h = (all_less cmp f k ks h.0, sorted_map cmp f ks h.1)

@@ -15,4 +15,4 @@ pub returns : goal.returns
 returns c = if_ok c.join_counts.result _ _
     (λ found h. lines_are (view_of c.args.image.now) c.args.image.now.lines.now.addresses.items c.args.image.now.image.now.rows.now
     (contains nat_cmp c.in_ok-own.own) c.in_ok-facts.facts.items c.push_facts_beside.new.facts.items found.items c.in_ok-facts.ensures (rw c.as_slice.ensures.value at c.in_ok-own.ensures)
-    c.in_ok-push_facts_beside.ensures h) c.join_counts.ensures
+    c.in_ok-push_facts_beside.ensures h) (rw c.as_slice-2.ensures.value at c.join_counts.ensures)

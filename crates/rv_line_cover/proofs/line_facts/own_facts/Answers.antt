@@ -1,4 +1,4 @@
-use Rattle.std.proofs.Common.{◌≡◌, ◌∙◌, ◌<◌, ◌++◌, [], ◌∷◌, ℕ, List, Vec, Global, ap, arith, get_or, length, sym}
+use Rattle.std.proofs.Common.{◌∙◌, ◌++◌, [], ◌∷◌, Vec, Global, ap, get_or, refl, sym}
 use Rattle.rv_lcov.specs.declared.place_count.PlaceCount.{PlaceCount}
 use Rattle.rv_line_cover.specs.LineFacts.{own_fact}
 use Rattle.rv_line_cover.specs.Lookup.{view_of}
@@ -9,18 +9,15 @@ use Rattle.rv_line_cover.proofs.line_facts.own_facts.Goals as goal
 pub loop-address-preserved : goal.loop-address-preserved
 loop-address-preserved c =
     let f = own_fact (view_of c.args.image.now) in
-    let addresses = c.args.image.now.lines.now.addresses.items in
+    let addresses = c.as_slice-address-items.result.now in
     let at = c.loop-address.address-index in
-    let address = get_or c.as_slice-address-items.result.now at 0 in
-    let is : address ≡ get_or addresses at 0 = ap (λ (xs : List ℕ). get_or xs at 0) c.as_slice-address-items.ensures.value in
-    let within : at < length addresses = omega (arith, c.loop-address-test.true, ap length c.as_slice-address-items.ensures.value) in
-    let had = rw c.as_slice-address-items.ensures.value at c.loop-address.invariant in
+    let address = get_or addresses at 0 in
     elim c.match-own_fact.branch [
       | in-Some+in_ok-push w ↦
           ap (λ (v : Vec PlaceCount Global). v.items) w.facts-is ∙ (w.in_ok-push.ensures.items
-          ∙ (ap (λ facts. facts ++ w.in-Some.fact ∷ []) had
-          ∙ sym (filter_map_some f addresses at address 0 w.in-Some.fact within is (sym c.own_fact.ensures ∙ w.in-Some.is))))
+          ∙ (ap (λ facts. facts ++ w.in-Some.fact ∷ []) c.loop-address.invariant
+          ∙ sym (filter_map_some f addresses at address 0 w.in-Some.fact c.loop-address-test.true refl (sym c.own_fact.ensures ∙ w.in-Some.is))))
       | in_default w ↦
-          ap (λ (v : Vec PlaceCount Global). v.items) w.facts-is ∙ (had
-          ∙ sym (filter_map_none f addresses at address 0 within is (sym c.own_fact.ensures ∙ w.in_default.is)))
+          ap (λ (v : Vec PlaceCount Global). v.items) w.facts-is ∙ (c.loop-address.invariant
+          ∙ sym (filter_map_none f addresses at address 0 c.loop-address-test.true refl (sym c.own_fact.ensures ∙ w.in_default.is)))
     ]

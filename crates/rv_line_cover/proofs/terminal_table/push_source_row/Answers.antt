@@ -6,6 +6,5 @@ use Rattle.rv_line_cover.proofs.terminal_table.push_source_row.Goals as goal
 pub returns-in_ok-push_uncovered : goal.returns-in_ok-push_uncovered
 unfolding source_row
 returns-in_ok-push_uncovered c =
-    rw c.if-uncovered.true
-    (simp append_assoc (simp (append-nil, c.as_slice.ensures, c.as_slice-then-uncovered.ensures, c.totals_of.ensures, c.in_ok-push_totals.ensures, c.in_ok-push_spans.ensures)
-    at c.in_ok-push_uncovered.ensures))
+    let out = c.in_ok-push_uncovered.ensures ∙ ap (λ text. text ++ _) (c.in_ok-push_spans.ensures ∙ ap (λ text. text ++ _) c.in_ok-push_totals.ensures) in
+    rw c.if-uncovered.true ?
