@@ -66,10 +66,7 @@ fn push_source_row(
             Span::Text("\n"),
         ],
     )?;
-    if uncovered {
-        push_uncovered(alloc, text, source.lines.as_slice())?;
-    }
-    Ok(())
+    push_uncovered(alloc, text, uncovered, source.lines.as_slice())
 }
 
 // Appends the columns of totals.
@@ -97,9 +94,17 @@ fn push_amount(
 }
 
 // Appends the lines that never ran, or nothing if each line ran.
-fn push_uncovered(alloc: Global, text: &mut Vec<u8>, lines: &[LineCount]) -> Result<(), AllocError>
-    ensures { OnOk result (text.new.items ≡ text.old.items ++ uncovered_line lines.now) }
+fn push_uncovered(
+    alloc: Global,
+    text: &mut Vec<u8>,
+    uncovered: bool,
+    lines: &[LineCount],
+) -> Result<(), AllocError>
+    ensures { OnOk result (text.new.items ≡ text.old.items ++ (if uncovered then uncovered_line lines.now else [])) }
 {
+    if !uncovered {
+        return Ok(());
+    }
     let ranges = uncovered_ranges(alloc, lines)?;
     if ranges.is_empty() {
         return Ok(());

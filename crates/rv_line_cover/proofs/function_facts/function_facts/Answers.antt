@@ -17,10 +17,10 @@ loop-function-preserved c =
       | in-Some+in_ok-push w ↦
           ap (λ (v : Vec PlaceCount Global). v.items) w.facts-is ∙ (w.in_ok-push.ensures.items
           ∙ (ap (λ facts. facts ++ w.in-Some.fact ∷ []) c.loop-function.invariant
-          ∙ sym (filter_map_more_some f view_of_function functions at _ _ w.in-Some.fact c.loop-function-test.true refl
-          (sym (ap (function_line (view_of c.args.image.now) c.args.names.now _) first) ∙ sym c.function_fact.ensures ∙ w.in-Some.is))))
+          ∙ sym (filter_map_more_some f view_of_function functions at (get_or functions at _) _ w.in-Some.fact c.loop-function-test.true refl
+          (sym (ap (function_line (view_of c.args.image.now) c.args.names.now (view_of_function (get_or functions at _))) first) ∙ sym c.function_fact.ensures ∙ w.in-Some.is))))
       | in_default w ↦
           ap (λ (v : Vec PlaceCount Global). v.items) w.facts-is ∙ (c.loop-function.invariant
-          ∙ sym (filter_map_more_none f view_of_function functions at _ _ c.loop-function-test.true refl
-          (sym (ap (function_line (view_of c.args.image.now) c.args.names.now _) first) ∙ sym c.function_fact.ensures ∙ w.in_default.is)))
+          ∙ sym (filter_map_more_none f view_of_function functions at (get_or functions at _) _ c.loop-function-test.true refl
+          (sym (ap (function_line (view_of c.args.image.now) c.args.names.now (view_of_function (get_or functions at _))) first) ∙ sym c.function_fact.ensures ∙ w.in_default.is)))
     ]

@@ -1,9 +1,14 @@
-use Rattle.std.proofs.Common.{◌≡◌, ◌∙◌, ap, map, sym}
+use Rattle.std.proofs.Common.{◌≡◌, ◌∙◌, ℕ, List, ap, map, subst, sym}
 use Rattle.std.specs.List.{flat_map}
 use Rattle.rv_cover_view.specs.Functions.{view_of_function}
+use Rattle.rv_lcov.specs.declared.place_count.PlaceCount.{PlaceCount}
+use Rattle.rv_lines.specs.TableViews.{view_tables}
+use Rattle.rv_lines.specs.declared.table_walk.UnitRow.{UnitRow}
 use Rattle.rv_line_cover.specs.BranchFacts.{code_addresses}
+use Rattle.rv_line_cover.specs.Coverage.{rows_of}
 use Rattle.rv_line_cover.specs.Facts.{FactLists}
 use Rattle.rv_line_cover.specs.FileSources.{source_of}
+use Rattle.rv_line_cover.specs.LineFacts.{AreLinesOf}
 use Rattle.rv_line_cover.proofs.Images.{same_view}
 use Rattle.rv_line_cover.proofs.image_facts.facts_of_tables.Goals as goal
 
@@ -23,7 +28,10 @@ returns c =
       view = _;
       known = same_view _ _ _ _ _ _ _ _ (source_of c.in_ok-files.files) c.args.counts.now c.in_ok-found.ensures.addresses
           c.in_ok-found.ensures.lines c.in_ok-symbols.ensures.image c.in_ok-symbols.ensures.bytes;
-      lines = rw (sym (ap (λ (f : FactLists). f.lines) facts), c.in_ok-found.ensures.addresses, rows) at c.in_ok-lines.ensures;
+      lines = subst (λ (found : List PlaceCount). AreLinesOf _ c.in_ok-addresses.addresses.items (rows_of (view_tables c.args.tables.now)) found)
+          (sym (ap (λ (f : FactLists). f.lines) facts))
+          (subst (λ (rs : List UnitRow). AreLinesOf _ c.in_ok-addresses.addresses.items rs c.in_ok-lines.lines.items) rows
+          (subst (λ (as : List ℕ). AreLinesOf _ as c.as_slice-rows.result.now c.in_ok-lines.lines.items) c.in_ok-found.ensures.addresses c.in_ok-lines.ensures));
       branches = ap (λ (f : FactLists). f.branches) facts ∙ (rw functions at c.in_ok-branches.ensures);
       called = ap (λ (f : FactLists). f.functions) facts ∙ (rw (functions, rows) at c.in_ok-calls.ensures);
     }
