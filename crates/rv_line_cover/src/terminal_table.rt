@@ -1,6 +1,6 @@
 //! The coverage of sources as a table for people.
 
-ghost use Rattle.std.specs.Prelude.{◌≡◌, ◌++◌, IfOk, OnOk};
+ghost use Rattle.std.specs.Prelude.{◌≡◌, ◌++◌, [], IfOk, OnOk, if◌then◌else◌};
 ghost use Rattle.rv_line_cover.specs.SourceTable.{amount_columns, source_row, source_rows, source_table, totals_columns, uncovered_line};
 
 use rv_count_tables::{Span, push_spans, push_text};
@@ -93,7 +93,7 @@ fn push_amount(
     push_right_aligned(alloc, text, 7, amount.all)
 }
 
-// Appends the lines that never ran, or nothing if each line ran.
+// Appends the lines that never ran if `uncovered` is true; nothing if each line ran.
 fn push_uncovered(
     alloc: Global,
     text: &mut Vec<u8>,
