@@ -31,7 +31,7 @@ returns c =
       lines = subst (λ (found : List PlaceCount). AreLinesOf _ c.in_ok-addresses.addresses.items (rows_of (view_tables c.args.tables.now)) found)
           (sym (ap (λ (f : FactLists). f.lines) facts))
           (subst (λ (rs : List UnitRow). AreLinesOf _ c.in_ok-addresses.addresses.items rs c.in_ok-lines.lines.items) rows
-          (subst (λ (as : List ℕ). AreLinesOf _ as c.as_slice-rows.result.now c.in_ok-lines.lines.items) c.in_ok-found.ensures.addresses c.in_ok-lines.ensures));
+          (subst (λ (searched : List ℕ). AreLinesOf _ searched c.as_slice-rows.result.now c.in_ok-lines.lines.items) c.in_ok-found.ensures.addresses c.in_ok-lines.ensures));
       branches = ap (λ (f : FactLists). f.branches) facts ∙ (rw functions at c.in_ok-branches.ensures);
       called = ap (λ (f : FactLists). f.functions) facts ∙ (rw (functions, rows) at c.in_ok-calls.ensures);
     }
