@@ -71,7 +71,7 @@ text_set all set found h s e = record { sorted = s; each = λ q. ap (list_any (b
 
 -- ---- what is known of addresses
 
-abbrev view : List ℕ → List (Option SourceLine) → Image → List ℕ → (ℕ → ℕ → Option ℕ) → List AddressCounts → ImageView
+abbrev pub view : List ℕ → List (Option SourceLine) → Image → List ℕ → (ℕ → ℕ → Option ℕ) → List AddressCounts → ImageView
 view addresses lines image bytes sources counts = record {
   line_at = found_line addresses lines;
   symbol_of = symbol_value image bytes;
