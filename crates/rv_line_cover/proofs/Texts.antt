@@ -1,5 +1,5 @@
 -- Texts that are added to a set.
-use Rattle.std.proofs.Common.{◌≡◌, ◌∙◌, ◌++◌, ◌||◌, ℕ, Bool, true, false, List, [], ◌∷◌, ap, map, refl, sym, subst}
+use Rattle.std.proofs.Common.{◌≡◌, ◌∙◌, ◌++◌, ◌||◌, ℕ, Bool, true, false, List, [], ◌∷◌, ap, append_assoc, map, refl, sym, subst}
 use Rattle.std.specs.declared.cmp.Ordering.{Ordering}
 use Rattle.std.specs.declared.cmp.Ordering.TheVariants.{Less, Equal, Greater}
 use Rattle.std.specs.BTreeSet.{insert_key}
@@ -115,3 +115,10 @@ pub sorted_map : {K L : Type 0} (cmp : L → L → Ordering) (f : K → L) (ks :
 unfolding IsStrictlySortedBy
 sorted_map cmp f [] h = h
 sorted_map cmp f (k ∷ ks) h = (all_less cmp f k ks h.0, sorted_map cmp f ks h.1)
+
+-- ---- the row of a source
+
+pub row_text : (old totals gap path end uncovered first spans new : List ℕ) → first ≡ old ++ totals → spans ≡ first ++ (gap ++ (path ++ end))
+    → new ≡ spans ++ uncovered → new ≡ old ++ (totals ++ gap ++ path ++ end ++ uncovered)
+row_text old totals gap path end uncovered first spans new a b c =
+    simp append_assoc (simp append_assoc at (c ∙ ap (λ xs. xs ++ uncovered) (b ∙ ap (λ xs. xs ++ (gap ++ (path ++ end))) a)))
