@@ -19,7 +19,7 @@ elif kind=='def':
     for f in sorted(glob.glob('crates/*/specs/**/*.antt',recursive=True)):
         L=open(f).read().split('\n')
         for i,l in enumerate(L):
-            if re.match(r'^(abbrev |unfoldable )?(pub )?(record |data )?[A-Za-z]\S* .*:',l) and not l.startswith(('use ','--','module')):
+            if re.match(r'^(abbrev |unfoldable )?(pub )?(record |data )?[A-Za-z]\S* [^=]*:',l) and not l.startswith(('use ','--','module')):
                 j=i-1
                 while j>=0 and L[j].startswith('--') and not L[j].startswith('-- ----'): j-=1
                 e=i+1

@@ -1,6 +1,6 @@
 # names called in src but defined nowhere in the repository (crates, kit) and rare
 import os,re,collections,sys
-TOP='/work/n5'
+TOP='/work/one'
 defs=set(); uses=collections.defaultdict(list)
 for r,ds,fs in os.walk(TOP):
     if '/.git' in r or '/target' in r: continue
