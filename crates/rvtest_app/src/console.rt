@@ -21,7 +21,7 @@ use rv_command::{Stop, write_message, write_results};
 use rv_expect::{Judge, Rule, has_passed};
 use rv_files::{Inputs, Outputs, RecordingStore, Sink, UnreadablePath};
 use rv_job_text::{TextReporter, Verbosity};
-use rv_rows::{JobList, Plan, Row, gather_jobs, row_at};
+use rv_rows::{Plan, Row, gather_jobs, row_at};
 use rvtest_cli::ConsoleArgs;
 use std::alloc::Global;
 
@@ -64,25 +64,25 @@ fn run_named_job<D: Inputs>(
     ensures status_bound { IfOk result (λ reported. reported.status ≤ 1) }
     ensures stopped { IfErr result (IsConsoleStop (D.contents inputs.now) args.entry) }
 {
-    let NamedJob { jobs, index } = read_named_job(inputs, alloc, args.list, args.name)?;
-    run_job_at(inputs, alloc, args, jobs, index)
+    let named = read_named_job(inputs, alloc, args.list, args.name)?;
+    run_job_at(inputs, alloc, args, named)
 }
 
-// Runs the job at index `index` of the list, and returns its row, its result line, and the exit status.
+// Runs the named job, and returns its row, its result line, and the exit status.
 fn run_job_at<D: Inputs>(
     inputs: &D,
     alloc: Global,
     args: ConsoleArgs<'_>,
-    jobs: JobList,
-    index: usize,
+    named: NamedJob,
 ) -> Result<ReportedRow, Stop>
-    requires { index < length jobs }
+    requires { named.index < length named.jobs }
     ensures reported { IfOk result (λ reported.
         IsJobConsole (contents_relative_to (optional_text args.entry.root) (D.contents inputs.now))
-        jobs index reported.row.console reported.line.items reported.status) }
+        named.jobs named.index reported.row.console reported.line.items reported.status) }
     ensures status_bound { IfOk result (λ reported. reported.status ≤ 1) }
     ensures memory { IfErr result (λ stop. stop ≡ Stop.OutOfMemory) }
 {
+    let NamedJob { jobs, index } = named;
     let mut store = RecordingStore::new(inputs, alloc, args.root);
     let plan = gather_jobs(alloc, jobs, &[index], &mut store)?;
     run_planned_job(alloc, &plan, store.unreadable_paths(), index)

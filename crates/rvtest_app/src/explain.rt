@@ -19,7 +19,7 @@ use rv_command::Stop;
 use rv_expect::{Judge, Rule, has_passed};
 use rv_files::{Inputs, RecordingStore, UnreadablePath};
 use rv_job_text::{TextReporter, TraceOptions, Verbosity, budget_use_at};
-use rv_rows::{JobList, Plan, gather_jobs, row_at};
+use rv_rows::{Plan, gather_jobs, row_at};
 use rvtest_cli::ExplainArgs;
 use std::alloc::Global;
 
@@ -35,25 +35,25 @@ pub(crate) fn explain_named_job<D: Inputs>(
     ensures status_bound { IfOk result (λ output. output.status ≤ 1) }
     ensures stopped { IfErr result (IsExplainStop (D.contents inputs.now) args.entry) }
 {
-    let NamedJob { jobs, index } = read_named_job(inputs, alloc, args.list, args.name)?;
-    explain_job_at(inputs, alloc, args, jobs, index)
+    let named = read_named_job(inputs, alloc, args.list, args.name)?;
+    explain_job_at(inputs, alloc, args, named)
 }
 
-// Runs the job at index `index` of the list, and returns its explanation and the exit status. A requested budget replaces the job's own.
+// Runs the named job, and returns its explanation and the exit status. A requested budget replaces the job's own.
 fn explain_job_at<D: Inputs>(
     inputs: &D,
     alloc: Global,
     args: ExplainArgs<'_>,
-    jobs: JobList,
-    index: usize,
+    named: NamedJob,
 ) -> Result<CommandResult, Stop>
-    requires { index < length jobs }
+    requires { named.index < length named.jobs }
     ensures explained { IfOk result (λ output.
         IsJobExplained (contents_relative_to (optional_text args.entry.root) (D.contents inputs.now))
-        (with_budget args.entry.budget jobs) index args.entry.last output.text.items output.status) }
+        (with_budget args.entry.budget named.jobs) named.index args.entry.last output.text.items output.status) }
     ensures status_bound { IfOk result (λ output. output.status ≤ 1) }
     ensures memory { IfErr result (λ stop. stop ≡ Stop.OutOfMemory) }
 {
+    let NamedJob { jobs, index } = named;
     let jobs = jobs.with_budget(args.budget);
     let mut store = RecordingStore::new(inputs, alloc, args.root);
     let plan = gather_jobs(alloc, jobs, &[index], &mut store)?;

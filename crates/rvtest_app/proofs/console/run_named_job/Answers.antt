@@ -5,9 +5,9 @@ use Rattle.rvtest_app.proofs.console.run_named_job.Goals as goal
 
 pub returns-clause-reported : goal.returns-clause-reported
 returns-clause-reported g c = IfOk-map c.run_job_at.result _ _ (λ reported is. record {
-  jobs = c.in_ok-jobs.jobs;
-  index = c.in_ok-jobs.index;
-  named = c.in_ok-jobs.ensures.named;
+  jobs = c.in_ok-named.named.jobs;
+  index = c.in_ok-named.named.index;
+  named = c.in_ok-named.ensures.named;
   of_job = is;
 }) c.run_job_at.ensures.reported
 

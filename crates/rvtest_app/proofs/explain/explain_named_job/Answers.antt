@@ -5,9 +5,9 @@ use Rattle.rvtest_app.proofs.explain.explain_named_job.Goals as goal
 
 pub returns-clause-explained : goal.returns-clause-explained
 returns-clause-explained g c = IfOk-map c.explain_job_at.result _ _ (λ output is. record {
-  jobs = c.in_ok-jobs.jobs;
-  index = c.in_ok-jobs.index;
-  named = c.in_ok-jobs.ensures.named;
+  jobs = c.in_ok-named.named.jobs;
+  index = c.in_ok-named.named.index;
+  named = c.in_ok-named.ensures.named;
   explained = is;
 }) c.explain_job_at.ensures.explained
 
